@@ -1,0 +1,5 @@
+pub mod Fields
+pub mod Root
+pub mod Absolute
+pub mod Maximum
+pub mod Steps
