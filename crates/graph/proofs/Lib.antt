@@ -1,0 +1,7 @@
+pub mod Edges
+pub mod Checks
+pub mod Refusals
+pub mod Left
+pub mod Said
+pub mod Decimals
+pub mod Regions

@@ -1,0 +1,10 @@
+pub mod Answers
+pub mod Settings
+pub mod Edges
+pub mod Given
+pub mod Fronts
+pub mod Checks
+pub mod Refusals
+pub mod Pres
+pub mod Left
+pub mod Layout
