@@ -3,8 +3,7 @@ use Prim.Native.Nat.{ℕ, _+_, _-_, _*_, _/_, _%_, _^_, _≤_, _<_}
 use mathlib.Core.Path.{_≡_, subst}
 use native.Mathlib.Omega.{arith}
 use lib.Pow.{pow-mono}
-use Rattle.roots.specs.Steps.{Floor}
-use Rattle.roots.proofs.Squares.{sq-even, sq-odd, sq-suc, four-more, two-more}
+use Rattle.roots.proofs.Squares.{Floor, sq-even, sq-odd, sq-suc, four-more, two-more}
 
 -- i digits of the root of a are in q
 pub record Taken (a i q rest left : ℕ) : Type 0 where

@@ -2,6 +2,9 @@ pub mod Squares
 pub mod Digits
 pub mod Doubles
 pub mod Nearest
+pub mod Lifted
+pub mod Fields
 pub mod Absolute
 pub mod Sorts
+pub mod Maximum
 pub mod Unique

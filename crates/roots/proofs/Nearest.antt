@@ -1,4 +1,4 @@
--- A rounded whole root, scaled, is the double nearest to the root. Assumes nothing.
+-- A rounded whole root, scaled, is the double nearest to the root: `rootAt` is right. Assumes nothing.
 use Prim.Native.Nat.{ℕ, zero, suc, _+_, _-_, _*_, _/_, _%_, _^_, _≤_, _<_}
 use mathlib.Core.Path.{_≡_, refl, sym, ap, _∙_, subst}
 use mathlib.Core.Logic.{_⊎_, inl, inr}
@@ -6,13 +6,13 @@ use native.Mathlib.Nat.{le-refl, le-trans, le-of-eq, le-of-lt, lt-of-lt-of-le, l
 use native.Mathlib.Decide.{decLe}
 use native.Mathlib.Omega.{arith}
 use lib.Dec.{T}
-use lib.Pow.{pow-pos}
-use lib.Ieee.{Float, binary64, fits}
+use lib.Pow.{pow-add, pow-pos}
+use lib.Ieee.{Float, binary64, fits, ofBits}
 use lib.Ieee.Scale.{finite}
-use lib.Ieee.Positive.{positive}
-use Rattle.roots.specs.Root.{IsRoot, parts}
-use Rattle.roots.specs.Steps.{Rounded}
-use Rattle.roots.proofs.Doubles.{Shape, digits, shape, grid}
+use lib.Ieee.Positive.{positive, positive-of-value}
+use Rattle.roots.specs.Root.{IsRoot, parts, roundRoot, rootAt}
+use Rattle.roots.proofs.Squares.{Rounded, round-root}
+use Rattle.roots.proofs.Doubles.{Shape, digits, shape, grid, made, parts-of}
 
 -- ---- squares of multiples of u
 sq-under : (s p u A : ℕ) → 0 < u → s ≤ p * u → p * p < A → s * s < A * (u * u)
@@ -72,9 +72,46 @@ module _ (a n k N : ℕ) (R : Rounded a n) (big : 2 ^ 52 ≤ a) (same : 4 * N �
       let f : (2 * n + 1) * 2 ^ k ≤ v + n * 2 ^ k = omega arith in
       subst (λ (x : ℕ). x < (v + n * 2 ^ k) * (v + n * 2 ^ k)) (sym same) (sq-over (v + n * 2 ^ k) (2 * n + 1) (2 ^ k) (a * 4 ^ 27) U f (R .below))
 
-  pub nearest : (r : Float) → T (positive r) → parts r ≡ n * 2 ^ k → IsRoot N r
+  nearest : (r : Float) → T (positive r) → parts r ≡ n * 2 ^ k → IsRoot N r
   nearest r F P = record {
     number = F;
     less = λ q f g h. subst (λ (x : ℕ). (parts q + x) * (parts q + x) < 4 * N) (sym P) (below (digits q) (parts q) (shape q f g) (subst (λ (x : ℕ). parts q < x) P h));
     more = λ q f g h. subst (λ (x : ℕ). 4 * N < (parts q + x) * (parts q + x)) (sym P) (over (digits q) (parts q) (shape q f g) (subst (λ (x : ℕ). x < parts q) P h));
   }
+
+-- ---- `rootAt`
+
+-- a, shifted by the exponent's last bit
+module _ (a e : ℕ) (lo : 2 ^ 52 ≤ a) (hi : a < 2 ^ 53) where
+  pub shifted : (2 ^ 52 ≤ a * 2 ^ (e % 2)) × (a * 2 ^ (e % 2) < 2 ^ 54)
+  shifted = go (e % 2) (omega arith)
+    where
+      go : (o : ℕ) → o < 2 → (2 ^ 52 ≤ a * 2 ^ o) × (a * 2 ^ o < 2 ^ 54)
+      go zero O = omega arith
+      go (suc zero) O = omega arith
+      go (suc (suc o)) O = absurd (omega arith)
+
+  pub half : Rounded (a * 2 ^ (e % 2)) (roundRoot (a * 2 ^ (e % 2)))
+  half = round-root (a * 2 ^ (e % 2)) (shifted .0) (shifted .1)
+
+-- the exponent, halved
+halved : (e : ℕ) → 2 ^ (52 + e) ≡ 2 ^ 52 * (2 ^ (e % 2) * (2 ^ (e / 2) * 2 ^ (e / 2)))
+halved e =
+    let s : e ≡ e % 2 + (e / 2 + e / 2) = omega arith in
+    pow-add 2 52 e ∙ ap (λ (x : ℕ). 2 ^ 52 * x) (ap (λ (x : ℕ). 2 ^ x) s ∙ pow-add 2 (e % 2) (e / 2 + e / 2) ∙ ap (λ (x : ℕ). 2 ^ (e % 2) * x) (pow-add 2 (e / 2) (e / 2)))
+
+regrouped : (a o u : ℕ) → 4 * (a * (2 ^ 52 * (o * (u * u)))) ≡ a * o * 4 ^ 27 * (u * u)
+regrouped a o u = omega arith
+
+pub rootAt-is : (a e : ℕ) → 2 ^ 52 ≤ a → a < 2 ^ 53 → e < 3068 → IsRoot (a * 2 ^ (52 + e)) (rootAt a e)
+unfolding rootAt
+rootAt-is a e lo hi E =
+    let n = roundRoot (a * 2 ^ (e % 2)) in
+    let R = half a e lo hi in
+    let r = ofBits binary64 (e / 2 * 2 ^ 52 + n) in
+    let k : e / 2 < 2045 = omega arith in
+    let v = made (e / 2) n (R .from) (R .to) k in
+    let z : 0 < n = omega (arith, R .from) in
+    nearest (a * 2 ^ (e % 2)) n (e / 2) (a * 2 ^ (52 + e)) R (shifted a e lo hi .0)
+    (ap (λ (x : ℕ). 4 * (a * x)) (halved e) ∙ regrouped a (2 ^ (e % 2)) (2 ^ (e / 2)))
+    r (positive-of-value r (n * 2 ^ (e / 2)) (2 ^ 1074) v (mul-pos z (pow-pos (e / 2)))) (parts-of r (n * 2 ^ (e / 2)) v)

@@ -1,17 +1,16 @@
--- There is one square root; and `sqrtOf` at some doubles, computed. Assumes nothing.
-use Prim.Native.Nat.{ℕ, zero, suc, _+_, _*_, _^_, _≤_, _<_}
-use mathlib.Core.Path.{_≡_, refl, sym, ap, _∙_, subst}
-use mathlib.Core.Logic.{_⊎_, inl, inr}
-use mathlib.Core.Bool.{Bool, true, false}
+-- No second outcome meets the contract of `sqrt`, `abs` or `max`. Assumes nothing.
+use Prim.Native.Nat.{ℕ, zero, suc, _+_, _*_, _^_, _<_}
+use mathlib.Core.Path.{_≡_, sym, ap, _∙_, subst}
+use mathlib.Core.Bool.{true, false}
 use native.Mathlib.Nat.{add-comm, lt-irrefl, lt-trans}
 use native.Mathlib.Omega.{arith}
-use lib.IntN.{pos, negsuc}
-use lib.Count.{leadingZeros}
 use lib.Dec.{T}
-use lib.Ieee.{Float, nan, inf, fin, binary64, fits, toBits, ofBits, size}
+use lib.Ieee.{Float, nan, inf, fin, binary64, fits, toBits, ofBits}
 use lib.Ieee.Bits.{ofBits-toBits}
 use lib.Ieee.Positive.{positive, positive-finite}
-use Rattle.roots.specs.Root.{IsRoot, SquareRoot, parts, sqrtOf, rootOf, rootAt, roundRoot, isqrt}
+use Rattle.roots.specs.Root.{IsRoot, SquareRoot, parts}
+use Rattle.roots.specs.Absolute.{absOf}
+use Rattle.roots.specs.Maximum.{maxOf}
 
 -- two doubles above zero of the same size
 same-bits : (r s : Float) → T (positive r) → T (positive s) → parts r ≡ parts s → toBits binary64 r ≡ toBits binary64 s
@@ -24,7 +23,7 @@ same-bits (fin false m d) (inf t) p q e = absurd q
 same-bits (fin false m d) (fin true n f) p q e = absurd q
 same-bits (fin false m d) (fin false n f) p q e = rw e
 
-pub one-root : (n : ℕ) (r s : Float) → T (fits binary64 r) → T (fits binary64 s) → IsRoot n r → IsRoot n s → r ≡ s
+one-root : (n : ℕ) (r s : Float) → T (fits binary64 r) → T (fits binary64 s) → IsRoot n r → IsRoot n s → r ≡ s
 one-root n r s f g R S = sym (ofBits-toBits binary64 r f) ∙ ap (ofBits binary64) (same-bits r s (R .number) (S .number) level) ∙ ofBits-toBits binary64 s g
   where
     no-less : (r s : Float) → T (fits binary64 r) → T (fits binary64 s) → IsRoot n r → IsRoot n s → parts r < parts s → ⊥
@@ -35,24 +34,20 @@ one-root n r s f g R S = sym (ofBits-toBits binary64 r f) ∙ ap (ofBits binary6
     level : parts r ≡ parts s
     level = let a = no-less r s f g R S in let b = no-less s r g f S R in omega arith
 
-pub one-square-root : (x r s : Float) → T (fits binary64 r) → T (fits binary64 s) → SquareRoot x r → SquareRoot x s → r ≡ s
+-- ---- the three calls
+
+-- the sign included: the root of a number above zero is above zero
+pub sqrt-unique : (x r s : Float) → T (fits binary64 r) → T (fits binary64 s) → SquareRoot x r → SquareRoot x s → r ≡ s
 unfolding SquareRoot
-one-square-root nan r s f g R S = R ∙ sym S
-one-square-root (inf true) r s f g R S = R ∙ sym S
-one-square-root (inf false) r s f g R S = R ∙ sym S
-one-square-root (fin t zero e) r s f g R S = R ∙ sym S
-one-square-root (fin true (suc m) e) r s f g R S = R ∙ sym S
-one-square-root (fin false (suc m) e) r s f g R S = one-root (parts (fin false (suc m) e) * 2 ^ 1074) r s f g R S
+sqrt-unique nan r s f g R S = R ∙ sym S
+sqrt-unique (inf true) r s f g R S = R ∙ sym S
+sqrt-unique (inf false) r s f g R S = R ∙ sym S
+sqrt-unique (fin t zero e) r s f g R S = R ∙ sym S
+sqrt-unique (fin true (suc m) e) r s f g R S = R ∙ sym S
+sqrt-unique (fin false (suc m) e) r s f g R S = one-root (parts (fin false (suc m) e) * 2 ^ 1074) r s f g R S
 
-four : sqrtOf (fin false 1 (pos 2)) ≡ fin false 1 (pos 1)
-unfolding sqrtOf rootOf rootAt roundRoot isqrt leadingZeros ofBits toBits
-four = refl
+pub abs-unique : (x : Float) {r s : Float} → r ≡ absOf x → s ≡ absOf x → r ≡ s
+abs-unique x R S = R ∙ sym S
 
-two : sqrtOf (fin false 1 (pos 1)) ≡ ofBits binary64 0x3ff6a09e667f3bcd
-unfolding sqrtOf rootOf rootAt roundRoot isqrt leadingZeros ofBits toBits
-two = refl
-
--- the smallest subnormal
-tiny : sqrtOf (fin false 1 (negsuc 1073)) ≡ fin false 1 (negsuc 536)
-unfolding sqrtOf rootOf rootAt roundRoot isqrt leadingZeros ofBits toBits
-tiny = refl
+pub max-unique : (x y : Float) {r s : Float} → r ≡ maxOf x y → s ≡ maxOf x y → r ≡ s
+max-unique x y R S = R ∙ sym S

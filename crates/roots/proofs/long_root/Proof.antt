@@ -4,7 +4,6 @@ use mathlib.Core.Path.{_≡_}
 use native.Mathlib.Omega.{arith}
 use borrow.Author.Needs.{needs}
 use lib.Bits.{bitAnd, and-mask}
-use Rattle.roots.specs.Steps.{Floor}
 use Rattle.roots.proofs.Squares.{is-isqrt}
 use Rattle.roots.proofs.Digits.{Taken, none, one, zero, all, below}
 use Rattle.roots.proofs.long_root.Statement.{statement}
@@ -72,8 +71,7 @@ returns c =
     let l = c .before .loop in
     let a = c .before .before .args .a in
     let e : l .i ≡ 54 = omega arith in
-    let f : Floor (a * 4 ^ 27) (l .q) = all (l .i) e (l .inv .1) in
-    (f, below (l .inv .0) (l .inv .1), is-isqrt a (l .q) (c .before .before .pre) f)
+    is-isqrt a (l .q) (c .before .before .pre) (all (l .i) e (l .inv .1))
 
 pub long-root-spec : {M : Type 1} → statement M
 long-root-spec =
