@@ -86,4 +86,3 @@ level-dist g ok s v k hs hk = (there, back)
         none : (j : ℕ) → j ≤ k → (walks g j s v ≡ 0) ⊎ (0 < walks g j s v) → walks g j s v ≡ 0
         none j l (inl z) = z
         none j l (inr z) = let p = walks-hops g j s v z in absurd (h .0 (dist g s v) (omega (arith, no-fewer g ok s v hs (p .0) (p .1) .1, p .2)) refl)
-

@@ -6,3 +6,4 @@ pub mod Demand
 pub mod Labels
 pub mod Steps
 pub mod Partial
+pub mod Search

@@ -14,6 +14,7 @@ use Rattle.hops.specs.Sum.{sumOver, below, same, onlyIf, times}
 use Rattle.hops.specs.Hops.{Valid, unreached}
 use Rattle.hops.specs.Search.{share, Sorted, has, Led, Comes, Ways, Mid}
 use Rattle.hops.proofs.Sums.{eq-or-ne, eqb-yes, eqb-no, same-yes, same-no, same-pos, sum-zero, sum-cong-mem, sum-append, sum-times, below-cong, mem-times, times-mem, times-none, times-snoc, not-long, short}
+use Rattle.hops.proofs.Walks.{entry-lt}
 use Rattle.hops.proofs.Labels.{Labels}
 
 pub share-yes : (dw dv cw m : ℕ) → dw + 1 ≡ dv → share dw dv cw m ≡ cw * m
@@ -32,10 +33,10 @@ share-none dw dv cw m e = go (eqb (dw + 1) dv)
     go true = ap (λ (x : ℕ). cw * x) e ∙ mul-zero cw
     go false = refl
 
--- a store at x
-pub record Put (f f′ : ℕ → ℕ) (x y : ℕ) : Type 0 where
+-- a store at x, as the numbers below n show it
+pub record Put (n : ℕ) (f f′ : ℕ → ℕ) (x y : ℕ) : Type 0 where
   pub at : f′ x ≡ y
-  pub off : (v : ℕ) → v ≢ x → f′ v ≡ f v
+  pub off : (v : ℕ) → v < n → v ≢ x → f′ v ≡ f v
 
 pub has-yes : {v : ℕ} → v ≢ unreached → has v ≡ 1
 has-yes q = ap (λ (t : Bool). onlyIf (not t) 1) (eqb-no q)
@@ -130,7 +131,7 @@ module _ {g : Graph} {s : ℕ} {d c : ℕ → ℕ} {done : List ℕ} {u : ℕ} {
       last v (inr n) = ap (share (d u) (d v) (c u)) (sym (snoc-other seen x v n))
 
   -- an entry one hop further that has a label: its ways grow by those of u
-  pub add : (c′ : ℕ → ℕ) (x : ℕ) → x < g .nodes → d x ≢ unreached → d x ≡ d u + 1 → Put c c′ x (c x + c u) → Mid g s d c′ done u (seen ++ (x ∷ [])) rest
+  pub add : (c′ : ℕ → ℕ) (x : ℕ) → x < g .nodes → d x ≢ unreached → d x ≡ d u + 1 → Put (g .nodes) c c′ x (c x + c u) → Mid g s d c′ done u (seen ++ (x ∷ [])) rest
   add c′ x hx q next P =
       record {
         start = M .start;
@@ -144,14 +145,14 @@ module _ {g : Graph} {s : ℕ} {d c : ℕ → ℕ} {done : List ℕ} {u : ℕ} {
         goes = M .goes;
         going = going-snoc x (q, all-near x hx q);
         ways = λ v hv l. ways′ v hv l (eq-or-ne v x);
-        no-ways = λ v hv e. P .off v (λ p. q (ap d (sym p) ∙ e)) ∙ M .no-ways v hv e;
+        no-ways = λ v hv e. P .off v hv (λ p. q (ap d (sym p) ∙ e)) ∙ M .no-ways v hv e;
       }
     where
       at-u : c′ u ≡ c u
-      at-u = P .off u (λ e. omega (arith, ap d e))
+      at-u = P .off u (M .nodes u u-in) (λ e. omega (arith, ap d e))
 
       sums : (v : ℕ) → sumOver done (λ w. share (d w) (d v) (c′ w) (times v (entries g w))) ≡ sumOver done (λ w. share (d w) (d v) (c w) (times v (entries g w)))
-      sums v = sum-cong-mem done (λ w m. ap (λ (t : ℕ). share (d w) (d v) t (times v (entries g w))) (P .off w (λ e. omega (arith, ap d e, M .earlier w m))))
+      sums v = sum-cong-mem done (λ w m. ap (λ (t : ℕ). share (d w) (d v) t (times v (entries g w))) (P .off w (M .nodes w (done-in w m)) (λ e. omega (arith, ap d e, M .earlier w m))))
 
       at-x : Ways g s d c′ done u (seen ++ (x ∷ [])) x
       at-x =
@@ -163,14 +164,14 @@ module _ {g : Graph} {s : ℕ} {d c : ℕ → ℕ} {done : List ℕ} {u : ℕ} {
       ways′ v hv l (inl e) = subst (λ (z : ℕ). Ways g s d c′ done u (seen ++ (x ∷ [])) z) (sym e) at-x
       ways′ v hv l (inr n) =
           let new : share (d u) (d v) (c′ u) (times v (seen ++ (x ∷ []))) ≡ share (d u) (d v) (c u) (times v seen) = ap₂ (share (d u) (d v)) at-u (snoc-other seen x v n) in
-          omega (arith, P .off v n, M .ways v hv l, sums v, new)
+          omega (arith, P .off v hv n, M .ways v hv l, sums v, new)
 
   -- an entry with no label: it gets one, and the ways of u, and goes to the end of the queue
-  pub new : Valid g → (d′ c′ : ℕ → ℕ) (x : ℕ) → x < g .nodes → List·Memᴰ x (entries g u) → d x ≡ unreached → Put d d′ x (d u + 1) → Put c c′ x (c u)
+  pub new : Valid g → s < g .nodes → ((y : ℕ) → List·Memᴰ y seen → y < g .nodes) → (d′ c′ : ℕ → ℕ) (x : ℕ) → x < g .nodes → List·Memᴰ x (entries g u) → d x ≡ unreached → Put (g .nodes) d d′ x (d u + 1) → Put (g .nodes) c c′ x (c u)
       → Mid g s d′ c′ done u (seen ++ (x ∷ [])) (rest ++ (x ∷ []))
-  new ok d′ c′ x hx ex e D C =
+  new ok hs seen-in d′ c′ x hx ex e D C =
       record {
-        start = D .off s s-not ∙ M .start;
+        start = D .off s hs s-not ∙ M .start;
         nodes = λ w m. nodes′ w (List·Memᴰ·append-cases (done ++ (u ∷ rest)) (subst (λ (l : List ℕ). List·Memᴰ w l) longer m));
         once = λ v hv. ap (times v) longer ∙ once′ v hv (eq-or-ne v x);
         near = λ v hv l. subst (λ (t : ℕ). d′ v < t) (sym (ap length longer ∙ length-append (done ++ (u ∷ rest)) (x ∷ []))) (near′ v hv l (eq-or-ne v x));
@@ -178,10 +179,10 @@ module _ {g : Graph} {s : ℕ} {d c : ℕ → ℕ} {done : List ℕ} {u : ℕ} {
         later = λ w m. later′ w (List·Memᴰ·append-cases rest m);
         sorted = sorted-snoc d d′ rest x (λ w m. keep w (rest-in w m)) (λ w m. omega (arith, keep w (rest-in w m), D .at, M .later w m .1)) (M .sorted);
         comes = λ v hv n l. comes′ v hv n l (eq-or-ne v x);
-        goes = λ w m y k. led′ w (keep w (done-in w m)) y (M .goes w m y k);
+        goes = λ w m y k. led′ w (keep w (done-in w m)) y (entry-lt g (ok .inside) w y k) (M .goes w m y k);
         going = λ y m. going′ y (List·Memᴰ·append-cases seen m);
         ways = λ v hv l. ways′ v hv l (eq-or-ne v x);
-        no-ways = λ v hv z. C .off v (v-not v z) ∙ M .no-ways v hv (sym (D .off v (v-not v z)) ∙ z);
+        no-ways = λ v hv z. C .off v hv (v-not v z) ∙ M .no-ways v hv (sym (D .off v hv (v-not v z)) ∙ z);
       }
     where
       longer : done ++ (u ∷ (rest ++ (x ∷ []))) ≡ (done ++ (u ∷ rest)) ++ (x ∷ [])
@@ -198,22 +199,22 @@ module _ {g : Graph} {s : ℕ} {d c : ℕ → ℕ} {done : List ℕ} {u : ℕ} {
       v-not v z p = omega (arith, ap d′ p, D .at, small)
 
       keep : (w : ℕ) → List·Memᴰ w (done ++ (u ∷ rest)) → d′ w ≡ d w
-      keep w m = D .off w (λ p. labelled w m (ap d p ∙ e))
+      keep w m = D .off w (M .nodes w m) (λ p. labelled w m (ap d p ∙ e))
 
       keep-c : (w : ℕ) → List·Memᴰ w (done ++ (u ∷ rest)) → c′ w ≡ c w
-      keep-c w m = C .off w (λ p. labelled w m (ap d p ∙ e))
+      keep-c w m = C .off w (M .nodes w m) (λ p. labelled w m (ap d p ∙ e))
 
-      has-label : (y : ℕ) → d y ≢ unreached → d′ y ≡ d y
-      has-label y l = D .off y (λ p. l (ap d p ∙ e))
+      has-label : (y : ℕ) → y < g .nodes → d y ≢ unreached → d′ y ≡ d y
+      has-label y hy l = D .off y hy (λ p. l (ap d p ∙ e))
 
-      led′ : (w : ℕ) → d′ w ≡ d w → (y : ℕ) → Led d w y → Led d′ w y
-      led′ w k y l = (λ z. l .0 (sym (has-label y (l .0)) ∙ z), omega (arith, k, has-label y (l .0), l .1))
+      led′ : (w : ℕ) → d′ w ≡ d w → (y : ℕ) → y < g .nodes → Led d w y → Led d′ w y
+      led′ w k y hy l = (λ z. l .0 (sym (has-label y hy (l .0)) ∙ z), omega (arith, k, has-label y hy (l .0), l .1))
 
       x-led : Led d′ u x
       x-led = (λ z. omega (arith, D .at, small), omega (arith, D .at, keep u u-in))
 
       going′ : (y : ℕ) → List·Memᴰ y seen ⊎ List·Memᴰ y (x ∷ []) → Led d′ u y
-      going′ y (inl m) = led′ u (keep u u-in) y (M .going y m)
+      going′ y (inl m) = led′ u (keep u u-in) y (seen-in y m) (M .going y m)
       going′ y (inr m) = subst (λ (z : ℕ). Led d′ u z) (sym (List·Memᴰ·eq-of-singleton m)) x-led
 
       nodes′ : (w : ℕ) → List·Memᴰ w (done ++ (u ∷ rest)) ⊎ List·Memᴰ w (x ∷ []) → w < g .nodes
@@ -222,11 +223,11 @@ module _ {g : Graph} {s : ℕ} {d c : ℕ → ℕ} {done : List ℕ} {u : ℕ} {
 
       once′ : (v : ℕ) → v < g .nodes → (v ≡ x) ⊎ (v ≢ x) → times v ((done ++ (u ∷ rest)) ++ (x ∷ [])) ≡ has (d′ v)
       once′ v hv (inl p) = subst (λ (z : ℕ). times z ((done ++ (u ∷ rest)) ++ (x ∷ [])) ≡ has (d′ z)) (sym p) (snoc-self (done ++ (u ∷ rest)) x ∙ omega (arith, M .once x hx, has-no e, has-yes {v = d′ x} (x-led .0)))
-      once′ v hv (inr n) = snoc-other (done ++ (u ∷ rest)) x v n ∙ M .once v hv ∙ ap has (sym (D .off v n))
+      once′ v hv (inr n) = snoc-other (done ++ (u ∷ rest)) x v n ∙ M .once v hv ∙ ap has (sym (D .off v hv n))
 
       near′ : (v : ℕ) → v < g .nodes → d′ v ≢ unreached → (v ≡ x) ⊎ (v ≢ x) → d′ v < length (done ++ (u ∷ rest)) + 1
       near′ v hv l (inl p) = omega (arith, ap d′ p, D .at, M .near u (M .nodes u u-in) (labelled u u-in))
-      near′ v hv l (inr n) = omega (arith, D .off v n, M .near v hv (λ z. l (D .off v n ∙ z)))
+      near′ v hv l (inr n) = omega (arith, D .off v hv n, M .near v hv (λ z. l (D .off v hv n ∙ z)))
 
       later′ : (w : ℕ) → List·Memᴰ w rest ⊎ List·Memᴰ w (x ∷ []) → (d′ u ≤ d′ w) × (d′ w ≤ d′ u + 1)
       later′ w (inl m) = omega (arith, keep u u-in, keep w (rest-in w m), M .later w m)
@@ -235,8 +236,8 @@ module _ {g : Graph} {s : ℕ} {d c : ℕ → ℕ} {done : List ℕ} {u : ℕ} {
       comes′ : (v : ℕ) → v < g .nodes → v ≢ s → d′ v ≢ unreached → (v ≡ x) ⊎ (v ≢ x) → Comes g d′ v
       comes′ v hv n l (inl p) = subst (λ (z : ℕ). Comes g d′ z) (sym p) (u, M .nodes u u-in, λ z. labelled u u-in (sym (keep u u-in) ∙ z), omega (arith, keep u u-in, D .at), ex)
       comes′ v hv n l (inr q) =
-          let r = M .comes v hv n (λ z. l (D .off v q ∙ z)) in
-          (r .0, r .1, λ z. r .2 (sym (has-label (r .0) (r .2)) ∙ z), omega (arith, has-label (r .0) (r .2), D .off v q, r .3), r .4)
+          let r = M .comes v hv n (λ z. l (D .off v hv q ∙ z)) in
+          (r .0, r .1, λ z. r .2 (sym (has-label (r .0) (r .1) (r .2)) ∙ z), omega (arith, has-label (r .0) (r .1) (r .2), D .off v hv q, r .3), r .4)
 
       at-x : Ways g s d′ c′ done u (seen ++ (x ∷ [])) x
       at-x =
@@ -248,9 +249,9 @@ module _ {g : Graph} {s : ℕ} {d c : ℕ → ℕ} {done : List ℕ} {u : ℕ} {
       ways′ : (v : ℕ) → v < g .nodes → d′ v ≢ unreached → (v ≡ x) ⊎ (v ≢ x) → Ways g s d′ c′ done u (seen ++ (x ∷ [])) v
       ways′ v hv l (inl p) = subst (λ (z : ℕ). Ways g s d′ c′ done u (seen ++ (x ∷ [])) z) (sym p) at-x
       ways′ v hv l (inr n) =
-          let sums : sumOver done (λ w. share (d′ w) (d′ v) (c′ w) (times v (entries g w))) ≡ sumOver done (λ w. share (d w) (d v) (c w) (times v (entries g w))) = sum-cong-mem done (λ w m. cc (keep w (done-in w m), D .off v n, keep-c w (done-in w m))) in
-          let last : share (d′ u) (d′ v) (c′ u) (times v (seen ++ (x ∷ []))) ≡ share (d u) (d v) (c u) (times v seen) = cc (keep u u-in, D .off v n, keep-c u u-in, snoc-other seen x v n) in
-          omega (arith, C .off v n, M .ways v hv (λ z. l (D .off v n ∙ z)), sums, last)
+          let sums : sumOver done (λ w. share (d′ w) (d′ v) (c′ w) (times v (entries g w))) ≡ sumOver done (λ w. share (d w) (d v) (c w) (times v (entries g w))) = sum-cong-mem done (λ w m. cc (keep w (done-in w m), D .off v hv n, keep-c w (done-in w m))) in
+          let last : share (d′ u) (d′ v) (c′ u) (times v (seen ++ (x ∷ []))) ≡ share (d u) (d v) (c u) (times v seen) = cc (keep u u-in, D .off v hv n, keep-c u u-in, snoc-other seen x v n) in
+          omega (arith, C .off v hv n, M .ways v hv (λ z. l (D .off v hv n ∙ z)), sums, last)
 
 -- the entries of u are all seen, and u′ is next in the queue
 pub next : {g : Graph} {s : ℕ} {d c : ℕ → ℕ} {done : List ℕ} {u u′ : ℕ} {rest : List ℕ} → Mid g s d c done u (entries g u) (u′ ∷ rest) → Mid g s d c (done ++ (u ∷ [])) u′ [] rest

@@ -9,7 +9,6 @@ use native.Mathlib.Decide.{ℕ-discrete}
 use native.Mathlib.Omega.{arith}
 use lib.Dec.{T, eqb, eqb→eq, eqb-refl}
 use lib.ListN.{length}
-
 use Rattle.hops.specs.Sum.{sumOver, below, onlyIf, same, times}
 
 -- ---- tests

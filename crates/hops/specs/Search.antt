@@ -1,14 +1,17 @@
 -- What holds within a breadth-first search (Brandes 2001): of its labels, its queue, and the workspace that holds them. Definitions only.
 use mathlib.Core.Path.{_≡_}
 use mathlib.Core.Logic.{_≢_}
-use mathlib.Core.Bool.{not}
+use mathlib.Core.Bool.{Bool, true, false, not}
 use mathlib.Core.List.{List, [], _∷_, _++_, List·Memᴰ}
 use Prim.Native.Nat.{ℕ, _+_, _*_, _≤_, _<_}
 use lib.Dec.{eqb}
 use lib.ListN.{length, getD, set, take}
-use Rattle.graph.specs.Edges.{Graph, entries}
+use Rattle.regions.specs.Region.{listOf}
+use Rattle.graph.specs.Edges.{Edge, Graph, entries}
+use Rattle.hops.specs.declared.Step.{Step}
+use Rattle.hops.specs.declared.Step.the-variants.{First, Again, Other, Paths}
 use Rattle.hops.specs.Sum.{sumOver, onlyIf, same, times}
-use Rattle.hops.specs.Hops.{unreached, Valid}
+use Rattle.hops.specs.Hops.{unreached, Valid, dist, count}
 
 -- what a node w, with the label dw, gives to a node v with the label dv: its ways cw, for each of the m entries of w that are v, if w is one hop nearer
 unfoldable pub share : (dw dv cw m : ℕ) → ℕ
@@ -53,3 +56,129 @@ pub record Mid (g : Graph) (s : ℕ) (d c : ℕ → ℕ) (done : List ℕ) (u : 
   pub going : (y : ℕ) → List·Memᴰ y seen → Led d u y
   pub ways : (v : ℕ) → v < g .nodes → d v ≢ unreached → Ways g s d c done u seen v
   pub no-ways : (v : ℕ) → v < g .nodes → d v ≡ unreached → c v ≡ 0
+
+-- ---- the workspace
+
+-- a region of w by its places
+abbrev pub cells : List ℕ → ℕ → ℕ → ℕ
+cells w base = λ v. getD w (base + v) 0
+
+-- a whole slice by its places
+abbrev pub places : List ℕ → ℕ → ℕ
+places c = λ v. getD c v 0
+
+-- a graph of n nodes
+abbrev pub graphOf : ℕ → Bool → List Edge → Graph
+graphOf n directed es = record { nodes = n; directed = directed; edges = es }
+
+-- the rows of g stand in w before `top`: n + 1 offsets, and the entries behind them
+pub record RowsOf (g : Graph) (w : List ℕ) (top : ℕ) : Type 0 where
+  pub long : (v : ℕ) → v < g .nodes → getD w (v + 1) 0 ≡ getD w v 0 + length (entries g v)
+  pub inside : (v : ℕ) → v < g .nodes → g .nodes + 1 + getD w (v + 1) 0 ≤ top
+  pub entry : (v k : ℕ) → v < g .nodes → k < length (entries g v) → getD w (g .nodes + 1 + (getD w v 0 + k)) 0 ≡ getD (entries g v) k 0
+
+-- what a search from s works on: the rows of a graph, then n distances from D of w, then n places of a queue from Q; n counts at the front of c
+pub record Space (g : Graph) (s : ℕ) (w c : List ℕ) (D Q : ℕ) : Type 0 where
+  pub valid : Valid g
+  pub start : s < g .nodes
+  pub rows : RowsOf g w D
+  pub apart : D + g .nodes ≤ Q
+  pub room : Q + g .nodes ≤ length w
+  pub counts : g .nodes ≤ length c
+
+-- no node has a distance or a count
+pub record Fresh (n : ℕ) (w c : List ℕ) (D : ℕ) : Type 0 where
+  pub far : (v : ℕ) → v < n → getD w (D + v) 0 ≡ unreached
+  pub none : (v : ℕ) → v < n → getD c v 0 ≡ 0
+
+-- s alone has been given its distance, its place in the queue and its count
+pub record Begun (s D Q : ℕ) (w c w′ c′ : List ℕ) : Type 0 where
+  pub stored : w′ ≡ set (set w (D + s) 0) Q s
+  pub counted : c′ ≡ set c s 1
+
+-- The search from s stands at place `head` of the queue, of which `tail` places are taken. The node there is u, and j of its entries have been looked
+-- at. No count exceeds the limit.
+pub record Search (g : Graph) (limit s : ℕ) (w c : List ℕ) (D Q head tail u j : ℕ) : Type 0 where
+  pub space : Space g s w c D Q
+  pub done : List ℕ
+  pub rest : List ℕ
+  pub queue : listOf (cells w Q) tail ≡ done ++ (u ∷ rest)
+  pub passed : length done ≡ head
+  pub small : (v : ℕ) → v < g .nodes → getD c v 0 ≤ limit
+  pub mid : Mid g s (cells w D) (places c) done u (take j (entries g u)) rest
+
+-- The search from s is over: the distances and counts are those of the graph, none exceeds the limit, and the nodes reached are the first `tail` of
+-- the queue, each once.
+pub record Found (g : Graph) (limit s : ℕ) (w c : List ℕ) (D Q tail : ℕ) : Type 0 where
+  pub space : Space g s w c D Q
+  pub dists : (v : ℕ) → v < g .nodes → getD w (D + v) 0 ≡ dist g s v
+  pub ways : (v : ℕ) → v < g .nodes → getD c v 0 ≡ count g s v
+  pub small : (v : ℕ) → v < g .nodes → count g s v ≤ limit
+  pub taken : tail ≤ g .nodes
+  pub queued : (i : ℕ) → i < tail → getD w (Q + i) 0 < g .nodes
+  pub reached : (v : ℕ) → v < g .nodes → dist g s v ≢ unreached → (i : ℕ) × (i < tail) × (getD w (Q + i) 0 ≡ v)
+
+-- a node with more fewest hop sequences from s than the limit
+pub record TooMany (g : Graph) (limit s : ℕ) : Type 0 where
+  pub node : ℕ
+  pub inside : node < g .nodes
+  pub more : limit < count g s node
+
+-- ---- one entry
+
+-- what `touch` asks of the entry x
+pub record TouchPre (x ways limit D place : ℕ) (w c : List ℕ) : Type 0 where
+  pub distance : D + x < length w
+  pub slot : getD w (D + x) 0 ≡ unreached → place < length w
+  pub counted : x < length c
+  pub small : ways ≤ limit
+
+-- x had no distance: it has the one that is further, stands in the queue, and has the ways of the node it was found from
+pub record FoundFirst (x further ways D place : ℕ) (w c w′ c′ : List ℕ) : Type 0 where
+  pub was : getD w (D + x) 0 ≡ unreached
+  pub stored : w′ ≡ set (set w (D + x) further) place x
+  pub counted : c′ ≡ set c x ways
+
+-- x is one hop further: its ways have grown by those of the node, and are within the limit
+pub record FoundAgain (x further ways limit D : ℕ) (w c w′ c′ : List ℕ) : Type 0 where
+  pub was : getD w (D + x) 0 ≡ further
+  pub known : further ≢ unreached
+  pub same : w′ ≡ w
+  pub counted : c′ ≡ set c x (getD c x 0 + ways)
+  pub within : getD c x 0 + ways ≤ limit
+
+-- x is no hop further
+pub record PassedOver (x further D : ℕ) (w c w′ c′ : List ℕ) : Type 0 where
+  pub known : getD w (D + x) 0 ≢ unreached
+  pub other : getD w (D + x) 0 ≢ further
+  pub same : w′ ≡ w
+  pub counts : c′ ≡ c
+
+-- x is one hop further, and with the ways of the node its own would exceed the limit
+pub record Exceeded (x further ways limit D : ℕ) (w c w′ c′ : List ℕ) : Type 0 where
+  pub was : getD w (D + x) 0 ≡ further
+  pub known : further ≢ unreached
+  pub same : w′ ≡ w
+  pub counts : c′ ≡ c
+  pub more : limit < getD c x 0 + ways
+
+-- what `touch` leaves, by what it answers
+abbrev pub Touched : (x further ways limit D place : ℕ) (w c w′ c′ : List ℕ) → Step → Type 0
+Touched x further ways limit D place w c w′ c′ First = FoundFirst x further ways D place w c w′ c′
+Touched x further ways limit D place w c w′ c′ Again = FoundAgain x further ways limit D w c w′ c′
+Touched x further ways limit D place w c w′ c′ Other = PassedOver x further D w c w′ c′
+Touched x further ways limit D place w c w′ c′ Paths = Exceeded x further ways limit D w c w′ c′
+
+-- by how much the queue has grown
+abbrev pub grown : Step → ℕ
+grown First = 1
+grown Again = 0
+grown Other = 0
+grown Paths = 0
+
+-- the limit was exceeded
+abbrev pub tooMany : Step → Bool
+tooMany First = false
+tooMany Again = false
+tooMany Other = false
+tooMany Paths = true

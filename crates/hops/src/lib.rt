@@ -1,4 +1,77 @@
-// Hop sequences and the search over neighbour rows.
-pub fn zero() -> u32 {
-    0
+// Hop sequences and the search over neighbour rows: breadth first, with the fewest hops and the number of ways to each node (Brandes 2001).
+ghost use mathlib.Core.Path.{_≡_};
+ghost use Prim.Native.Nat.{_+_, _≤_, _<_};
+ghost use lib.ListN.{length};
+ghost use Rattle.hops.specs.Search.{TouchPre, Touched, grown, tooMany};
+
+// What stands for "not reached".
+pub const UNREACHED: u32 = 4294967295;
+
+// The most paths that are counted: 2^53.
+pub const PATH_LIMIT: u64 = 9007199254740992;
+
+// What one entry of a row was to a search.
+pub enum Step {
+    First,
+    Again,
+    Other,
+    Paths,
+}
+
+// The entry x of a node that has `ways` ways; x would be `further` hops away. A node found first is given its distance, its place in the queue and
+// the node's ways; one found again at that distance is given more ways, unless these exceed the limit.
+pub fn touch(
+    x: u32,
+    further: u32,
+    ways: u64,
+    limit: u64,
+    distances: usize,
+    place: usize,
+    w: &mut [u32],
+    counts: &mut [u64],
+) -> Step
+    requires { ⌜ TouchPre x ways limit distances place (now w) (now counts) ⌝ }
+    ensures { λ r. ⌜ Touched x further ways limit distances place (now (w .entry)) (now (counts .entry)) (now (w .exit)) (now (counts .exit)) r ⌝ }
+{
+    let v = x as usize;
+    let old = w[distances + v];
+    if old == UNREACHED {
+        w[distances + v] = further;
+        w[place] = x;
+        counts[v] = ways;
+        return Step::First;
+    }
+    if old != further {
+        return Step::Other;
+    }
+    let before = counts[v];
+    if limit - ways < before {
+        return Step::Paths;
+    }
+    counts[v] = before + ways;
+    Step::Again
+}
+
+// By how much an entry let the queue grow.
+pub fn grown(t: Step) -> usize
+    ensures { λ r. ⌜ r ≡ grown t ⌝ }
+{
+    match t {
+        Step::First => 1,
+        Step::Again => 0,
+        Step::Other => 0,
+        Step::Paths => 0,
+    }
+}
+
+// An entry's ways would exceed the limit.
+pub fn too_many(t: Step) -> bool
+    ensures { λ r. ⌜ r ≡ tooMany t ⌝ }
+{
+    match t {
+        Step::First => false,
+        Step::Again => false,
+        Step::Other => false,
+        Step::Paths => true,
+    }
 }
