@@ -7,3 +7,5 @@ pub mod Labels
 pub mod Steps
 pub mod Partial
 pub mod Search
+pub mod Workspace
+pub mod Limits

@@ -9,15 +9,16 @@ use native.Mathlib.Numerals.{add-one}
 use native.Mathlib.Omega.{arith}
 use lib.ListN.{length, getD, set, take, length-append, length-set}
 use lib.Seq.{take-suc, take-all, getD-at}
-use Rattle.regions.specs.Region.{listOf}
-use Rattle.regions.proofs.Fronts.{list-long, list-more, list-same, hit, miss}
+use Rattle.regions.specs.Region.{listOf, Front, Frame2}
+use Rattle.regions.proofs.Fronts.{list-long, list-more, list-same, front-none, front-set, front-then, hit, miss}
 use Rattle.regions.proofs.Parts.{list-at}
+use Rattle.regions.proofs.Frames.{frame2-none, frame2-then, frame2-set-left, frame2-set-right}
 use Rattle.graph.specs.Edges.{Graph, entries}
 use Rattle.hops.specs.declared.Step.{Step}
 use Rattle.hops.specs.declared.Step.the-variants.{First, Again, Other, Paths}
 use Rattle.hops.specs.Sum.{sumOver, same, times}
 use Rattle.hops.specs.Hops.{Valid, unreached, dist, count}
-use Rattle.hops.specs.Search.{Mid, cells, places, RowsOf, Space, Fresh, Begun, Search, Found, TooMany, TouchPre, FoundFirst, FoundAgain, PassedOver, Exceeded, Touched, grown, tooMany}
+use Rattle.hops.specs.Search.{Mid, cells, places, RowsOf, Space, Fresh, BeginPre, Begun, Kept, Search, Found, TooMany, TouchPre, FoundFirst, FoundAgain, PassedOver, Exceeded, Touched, grown, tooMany}
 use Rattle.hops.proofs.Sums.{eq-or-ne, not-long, sum-append, times-mem}
 use Rattle.hops.proofs.Walks.{entry-lt}
 use Rattle.hops.proofs.Labels.{Labels, labels-dist, labels-count}
@@ -50,32 +51,48 @@ take-mem (suc k) (x ∷ xs) v (List·Memᴰ·tail m) = List·Memᴰ·tail (take-
 
 -- ---- the workspace
 
+-- stores at `top` or behind it leave the rows as they are
+pub rows-after : {g : Graph} {w : List ℕ} {top : ℕ} (w′ : List ℕ) → RowsOf g w top → g .nodes + 1 ≤ top → ((i : ℕ) → i < top → getD w′ i 0 ≡ getD w i 0) → RowsOf g w′ top
+rows-after {g} {w} {top} w′ R front same =
+    record {
+      long = λ v hv. off v hv ∙ R .long v hv ∙ ap (λ (x : ℕ). x + length (entries g v)) (sym (first v hv));
+      inside = λ v hv. omega (arith, off v hv, R .inside v hv);
+      entry = λ v k hv l.
+          ap (λ (x : ℕ). getD w′ (g .nodes + 1 + (x + k)) 0) (first v hv)
+          ∙ same (g .nodes + 1 + (getD w v 0 + k)) (omega (arith, R .long v hv, R .inside v hv))
+          ∙ R .entry v k hv l;
+    }
+  where
+    off : (v : ℕ) → v < g .nodes → getD w′ (v + 1) 0 ≡ getD w (v + 1) 0
+    off v hv = same (v + 1) (omega arith)
+
+    first : (v : ℕ) → v < g .nodes → getD w′ v 0 ≡ getD w v 0
+    first v hv = same v (omega arith)
+
 module _ {g : Graph} {s : ℕ} {w c : List ℕ} {D Q : ℕ} (H : Space g s w c D Q) where
   pub front : g .nodes + 1 ≤ D
   front = omega (arith, H .rows .inside s (H .start))
 
-  -- stores at D or behind it leave the rows as they are
   pub space-after : (w′ c′ : List ℕ) → length w′ ≡ length w → length c′ ≡ length c → ((i : ℕ) → i < D → getD w′ i 0 ≡ getD w i 0) → Space g s w′ c′ D Q
   space-after w′ c′ lw lc same =
       record {
         valid = H .valid;
         start = H .start;
-        rows =
-            record {
-              long = λ v hv. off v hv ∙ H .rows .long v hv ∙ ap (λ (x : ℕ). x + length (entries g v)) (sym (first v hv));
-              inside = λ v hv. omega (arith, off v hv, H .rows .inside v hv);
-              entry = λ v k hv l. ap (λ (x : ℕ). getD w′ (g .nodes + 1 + (x + k)) 0) (first v hv) ∙ same (g .nodes + 1 + (getD w v 0 + k)) (omega (arith, H .rows .long v hv, H .rows .inside v hv)) ∙ H .rows .entry v k hv l;
-            };
+        rows = rows-after w′ (H .rows) front same;
         apart = H .apart;
         room = omega (arith, H .room);
         counts = omega (arith, H .counts);
       }
-    where
-      off : (v : ℕ) → v < g .nodes → getD w′ (v + 1) 0 ≡ getD w (v + 1) 0
-      off v hv = same (v + 1) (omega (arith, front))
 
-      first : (v : ℕ) → v < g .nodes → getD w′ v 0 ≡ getD w v 0
-      first v hv = same v (omega (arith, front))
+pub kept-none : (n D Q : ℕ) (w c : List ℕ) → Kept n D Q w c w c
+kept-none n D Q w c = record { narrow = frame2-none w D n Q n; wide = front-none c n }
+
+pub kept-then : {n D Q : ℕ} {w c w′ c′ w″ c″ : List ℕ} → Kept n D Q w c w′ c′ → Kept n D Q w′ c′ w″ c″ → Kept n D Q w c w″ c″
+kept-then a b = record { narrow = frame2-then (a .narrow) (b .narrow); wide = front-then (a .wide) (b .wide) }
+
+unchanged : {n D Q : ℕ} {w c w′ c′ : List ℕ} → w′ ≡ w → c′ ≡ c → Kept n D Q w c w′ c′
+unchanged {n} {D} {Q} {w} {c} {w′} {c′} p q =
+    subst (λ (t : List ℕ). Kept n D Q w c t c′) (sym p) (subst (λ (t : List ℕ). Kept n D Q w c w t) (sym q) (kept-none n D Q w c))
 
 -- ---- where a search stands
 
@@ -272,6 +289,36 @@ module _ {g : Graph} {limit s : ℕ} {w c : List ℕ} {D Q head tail u j : ℕ} 
       paths Again T e = absurd (false≢true e)
       paths Other T e = absurd (false≢true e)
 
+      -- what else `touch` may have changed: nothing but distances, the queue and counts
+      pub step-kept : (r : Step) → Touched x further ways limit D place w c w′ c′ r → Kept (g .nodes) D Q w c w′ c′
+      step-kept First T =
+          record {
+            narrow = subst (λ (t : List ℕ). Frame2 w D (g .nodes) Q (g .nodes) t) (sym (T .stored)) (frame2-set-right place x (frame2-set-left (D + x) further (frame2-none w D (g .nodes) Q (g .nodes)) (omega arith) (omega (arith, entry-node))) (omega arith) (omega (arith, place-in (T .was))));
+            wide = subst (λ (t : List ℕ). Front c (g .nodes) t) (sym (T .counted)) (front-set x ways (front-none c (g .nodes)) entry-node);
+          }
+      step-kept Again T =
+          record {
+            narrow = subst (λ (t : List ℕ). Frame2 w D (g .nodes) Q (g .nodes) t) (sym (T .same)) (frame2-none w D (g .nodes) Q (g .nodes));
+            wide = subst (λ (t : List ℕ). Front c (g .nodes) t) (sym (T .counted)) (front-set x (getD c x 0 + ways) (front-none c (g .nodes)) entry-node);
+          }
+      step-kept Other T = unchanged (T .same) (T .counts)
+      step-kept Paths T = unchanged (T .same) (T .counts)
+
+      -- the node itself keeps its distance and its count
+      pub node-kept : (r : Step) → Touched x further ways limit D place w c w′ c′ r → (getD w′ (D + u) 0 ≡ getD w (D + u) 0) × (getD c′ u 0 ≡ getD c u 0)
+      node-kept First T =
+          let n : u ≢ x = λ e. node-labelled (ap (cells w D) e ∙ T .was) in (
+            ap (λ (t : List ℕ). getD t (D + u) 0) (T .stored)
+                ∙ miss (set w (D + x) further) place x (D + u) (λ e. omega (arith, node-lt, S .space .apart))
+                ∙ miss w (D + x) further (D + u) (λ e. n (omega arith)),
+            ap (λ (t : List ℕ). getD t u 0) (T .counted) ∙ miss c x ways u n,
+          )
+      node-kept Again T =
+          let n : u ≢ x = λ e. omega (arith, ap (cells w D) e, T .was, far) in
+          (ap (λ (t : List ℕ). getD t (D + u) 0) (T .same), ap (λ (t : List ℕ). getD t u 0) (T .counted) ∙ miss c x (getD c x 0 + ways) u n)
+      node-kept Other T = (ap (λ (t : List ℕ). getD t (D + u) 0) (T .same), ap (λ (t : List ℕ). getD t u 0) (T .counts))
+      node-kept Paths T = (ap (λ (t : List ℕ). getD t (D + u) 0) (T .same), ap (λ (t : List ℕ). getD t u 0) (T .counts))
+
 -- ---- from node to node
 
 module _ {g : Graph} {limit s : ℕ} {w c : List ℕ} {D Q head tail u j : ℕ} (S : Search g limit s w c D Q head tail u j) (all : length (entries g u) ≤ j) where
@@ -334,6 +381,15 @@ module _ {g : Graph} {limit s : ℕ} {w c : List ℕ} {D Q head tail u j : ℕ} 
           there v r = let l : r .0 < tail = omega (arith, r .1, list-long (cells w Q) tail) in (r .0, l, sym (list-at (cells w Q) tail 0 (r .0) l) ∙ r .2)
 
 -- ---- the beginning
+
+pub begin-pre : {g : Graph} {s : ℕ} {w c : List ℕ} {D Q : ℕ} → Space g s w c D Q → BeginPre s D Q w c
+begin-pre H =
+    record {
+      small = omega (arith, H .start, H .valid .few);
+      distance = omega (arith, H .start, H .apart, H .room);
+      slot = omega (arith, H .start, H .room);
+      counted = omega (arith, H .start, H .counts);
+    }
 
 -- s alone has a distance and a count, and stands first in the queue
 pub first : {g : Graph} (limit : ℕ) {s : ℕ} {w c w′ c′ : List ℕ} {D Q : ℕ} → Space g s w c D Q → Fresh (g .nodes) w c D → 1 ≤ limit → Begun s D Q w c w′ c′ → Search g limit s w′ c′ D Q 0 1 (getD w′ (Q + 0) 0) 0

@@ -6,7 +6,7 @@ use mathlib.Core.List.{List, [], _∷_, _++_, List·Memᴰ}
 use Prim.Native.Nat.{ℕ, _+_, _*_, _≤_, _<_}
 use lib.Dec.{eqb}
 use lib.ListN.{length, getD, set, take}
-use Rattle.regions.specs.Region.{listOf}
+use Rattle.regions.specs.Region.{listOf, Front, Frame2}
 use Rattle.graph.specs.Edges.{Edge, Graph, entries}
 use Rattle.hops.specs.declared.Step.{Step}
 use Rattle.hops.specs.declared.Step.the-variants.{First, Again, Other, Paths}
@@ -90,6 +90,18 @@ pub record Space (g : Graph) (s : ℕ) (w c : List ℕ) (D Q : ℕ) : Type 0 whe
 pub record Fresh (n : ℕ) (w c : List ℕ) (D : ℕ) : Type 0 where
   pub far : (v : ℕ) → v < n → getD w (D + v) 0 ≡ unreached
   pub none : (v : ℕ) → v < n → getD c v 0 ≡ 0
+
+-- nothing differs but the n distances, the n places of the queue and the n counts
+pub record Kept (n D Q : ℕ) (w c w′ c′ : List ℕ) : Type 0 where
+  pub narrow : Frame2 w D n Q n w′
+  pub wide : Front c n c′
+
+-- what `begin` asks: room for a distance, for one place of the queue and for a count
+pub record BeginPre (s D Q : ℕ) (w c : List ℕ) : Type 0 where
+  pub small : s < unreached
+  pub distance : D + s < length w
+  pub slot : Q < length w
+  pub counted : s < length c
 
 -- s alone has been given its distance, its place in the queue and its count
 pub record Begun (s D Q : ℕ) (w c w′ c′ : List ℕ) : Type 0 where

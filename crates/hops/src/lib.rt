@@ -2,7 +2,7 @@
 ghost use mathlib.Core.Path.{_≡_};
 ghost use Prim.Native.Nat.{_+_, _≤_, _<_};
 ghost use lib.ListN.{length};
-ghost use Rattle.hops.specs.Search.{TouchPre, Touched, grown, tooMany};
+ghost use Rattle.hops.specs.Search.{BeginPre, Begun, TouchPre, Touched, grown, tooMany};
 
 // What stands for "not reached".
 pub const UNREACHED: u32 = 4294967295;
@@ -16,6 +16,16 @@ pub enum Step {
     Again,
     Other,
     Paths,
+}
+
+// The start alone is reached: no hops, one way, first in the queue.
+pub fn begin(start: usize, distances: usize, queue: usize, w: &mut [u32], counts: &mut [u64])
+    requires { ⌜ BeginPre start distances queue (now w) (now counts) ⌝ }
+    ensures { λ _. ⌜ Begun start distances queue (now (w .entry)) (now (counts .entry)) (now (w .exit)) (now (counts .exit)) ⌝ }
+{
+    w[distances + start] = 0;
+    w[queue] = start as u32;
+    counts[start] = 1;
 }
 
 // The entry x of a node that has `ways` ways; x would be `further` hops away. A node found first is given its distance, its place in the queue and

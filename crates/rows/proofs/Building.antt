@@ -213,5 +213,6 @@ module _ (n : ℕ) (directed : Bool) (fs ts : List ℕ) (xs : List Float) (w : L
                 record {
                   front = front;
                   fit = record { rises = rises; inside = inside; nodes = nodes };
+                  within = λ v l. omega (arith, offs (v + 1) (omega arith), start-in v l);
                   rows = λ v l. whole v l ∙ rows-are fs ts xs (pre .sound .sized) v directed;
                 }

@@ -28,8 +28,9 @@ pub record BuildPre (n : ℕ) (from to : List ℕ) (weight : List Float) (w : Li
   pub sound : Sound n from to weight
   pub room : rowsFront n (length from) ≤ length w
 
--- the rows of w′ are the neighbour entries, and behind them w is as it was
+-- the rows of w′ are the neighbour entries and end within their front, and behind it w is as it was
 pub record Built (n : ℕ) (directed : Bool) (from to : List ℕ) (weight : List Float) (w w′ : List ℕ) : Type 0 where
   pub front : Front w (rowsFront n (length from)) w′
   pub fit : RowsFit n w′
+  pub within : (v : ℕ) → v < n → n + 1 + getD w′ (v + 1) 0 ≤ rowsFront n (length from)
   pub rows : (v : ℕ) → v < n → rowAt n w′ v ≡ neighbours directed (edgesOf from to weight) v
