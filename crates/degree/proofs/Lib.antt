@@ -1,0 +1,4 @@
+pub mod Exact
+pub mod Counting
+pub mod Ending
+pub mod Unique

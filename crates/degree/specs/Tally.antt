@@ -1,0 +1,21 @@
+-- The walk that counts ends in the scores themselves. Definitions only.
+use mathlib.Core.List.{List, foldl}
+use Prim.Native.Nat.{ℕ, _≤_, _<_}
+use lib.ListN.{length, getD, set, take}
+use lib.Ieee.{Float, binary64, nan, ofBits, add}
+
+-- 1.0
+abbrev pub oneF : Float
+oneF = ofBits binary64 0x3ff0_0000_0000_0000
+
+-- the scores with one more at v
+abbrev pub plusOne : List Float → ℕ → List Float
+plusOne w v = set w v (add binary64 (getD w v nan) oneF)
+
+-- the scores with one more at each of the first `many` ends
+unfoldable pub tally : List ℕ → ℕ → List Float → List Float
+tally ends many w = foldl plusOne w (take many ends)
+
+pub record TallyPre (ends : List ℕ) (many : ℕ) (w : List Float) : Type 0 where
+  pub some : many ≤ length ends
+  pub inside : (i : ℕ) → i < many → getD ends i 0 < length w

@@ -1,0 +1,118 @@
+// Degree centralities: the ends of the edges counted for each node, raw counts as doubles. No workspace; no weight is read.
+// Each call refuses SIZE, NODE, ROOM, in this order.
+use graph::Answer;
+use graph::Plain;
+use graph::Refusal;
+ghost use mathlib.Core.Path.{_≡_};
+ghost use mathlib.Core.Bool.{cond, false, true};
+ghost use mathlib.Core.List.{[]};
+ghost use lib.Dec.{ltb};
+ghost use Rattle.graph.specs.Answers.{saidPlain};
+ghost use Rattle.graph.specs.Given.{given};
+ghost use Rattle.graph.specs.Left.{left};
+ghost use Rattle.graph.specs.Refusals.{firstRefusal, endsTests};
+ghost use Rattle.degree.specs.Degree.{endsOutcome, degreeOutcome, inDegreeOutcome, outDegreeOutcome};
+ghost use Rattle.degree.specs.Tally.{tally, TallyPre};
+
+// Both ends of every edge: a self-loop adds two.
+pub fn degree(
+    nodes: usize,
+    directed: bool,
+    from: &[u32],
+    to: &[u32],
+    weight: &[f64],
+    scores: &mut [f64],
+) -> Plain
+    ensures { λ r. ⌜ left (saidPlain r) (now (scores .exit)) [] [] [] ≡ degreeOutcome (given nodes directed (now (from .entry)) (now (to .entry)) (now (weight .entry)) (now (scores .entry)) [] [] []) ⌝ }
+{
+    count_ends(nodes, directed, true, true, from, to, weight, scores)
+}
+
+// The edges that enter a node; undirected, both ends.
+pub fn in_degree(
+    nodes: usize,
+    directed: bool,
+    from: &[u32],
+    to: &[u32],
+    weight: &[f64],
+    scores: &mut [f64],
+) -> Plain
+    ensures { λ r. ⌜ left (saidPlain r) (now (scores .exit)) [] [] [] ≡ inDegreeOutcome (given nodes directed (now (from .entry)) (now (to .entry)) (now (weight .entry)) (now (scores .entry)) [] [] []) ⌝ }
+{
+    count_ends(nodes, directed, !directed, true, from, to, weight, scores)
+}
+
+// The edges that leave a node; undirected, both ends.
+pub fn out_degree(
+    nodes: usize,
+    directed: bool,
+    from: &[u32],
+    to: &[u32],
+    weight: &[f64],
+    scores: &mut [f64],
+) -> Plain
+    ensures { λ r. ⌜ left (saidPlain r) (now (scores .exit)) [] [] [] ≡ outDegreeOutcome (given nodes directed (now (from .entry)) (now (to .entry)) (now (weight .entry)) (now (scores .entry)) [] [] []) ⌝ }
+{
+    count_ends(nodes, directed, true, !directed, from, to, weight, scores)
+}
+
+// `froms` and `tos` say which ends count.
+fn count_ends(
+    nodes: usize,
+    directed: bool,
+    froms: bool,
+    tos: bool,
+    from: &[u32],
+    to: &[u32],
+    weight: &[f64],
+    scores: &mut [f64],
+) -> Plain
+    ensures { λ r. ⌜ left (saidPlain r) (now (scores .exit)) [] [] [] ≡ endsOutcome froms tos (given nodes directed (now (from .entry)) (now (to .entry)) (now (weight .entry)) (now (scores .entry)) [] [] []) ⌝ }
+{
+    let answer = refusal(nodes, from, to, weight, scores.len());
+    if graph::refuses(answer) {
+        return Plain::Refused(Refusal { answer });
+    }
+    let edges = from.len();
+    regions::wipef(scores, nodes);
+    add_ends(from, counted(froms, edges), scores);
+    add_ends(to, counted(tos, edges), scores);
+    Plain::Done
+}
+
+// SIZE, NODE or ROOM, whichever comes first, and DONE if nothing refuses.
+fn refusal(nodes: usize, from: &[u32], to: &[u32], weight: &[f64], room: usize) -> Answer
+    ensures { λ r. ⌜ r ≡ firstRefusal (endsTests nodes (now (from .entry)) (now (to .entry)) (now (weight .entry)) false false (ltb room nodes)) ⌝ }
+{
+    let answer = graph::graph_refusal(nodes, from, to, weight, false, false);
+    if graph::refuses(answer) {
+        return answer;
+    }
+    if room < nodes {
+        return Answer::Room;
+    }
+    Answer::Done
+}
+
+// How many of these ends count: all or none.
+fn counted(count: bool, edges: usize) -> usize
+    ensures { λ r. ⌜ r ≡ cond count edges 0 ⌝ }
+{
+    if count {
+        return edges;
+    }
+    0
+}
+
+// Adds one to the score of each of the first `many` ends.
+fn add_ends(ends: &[u32], many: usize, scores: &mut [f64])
+    requires { ⌜ TallyPre (now ends) many (now scores) ⌝ }
+    ensures { λ _. ⌜ now (scores .exit) ≡ tally (now (ends .entry)) many (now (scores .entry)) ⌝ }
+{
+    let mut i = 0;
+    while i < many {
+        let v = ends[i] as usize;
+        scores[v] = scores[v] + 1.0;
+        i += 1;
+    }
+}
