@@ -1,0 +1,3 @@
+pub mod Tests
+pub mod Rounds
+pub mod Says

@@ -1,0 +1,5 @@
+pub mod Rounds
+pub mod Says
+pub mod Tests
+pub mod Ending
+pub mod Vectors

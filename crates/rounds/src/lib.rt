@@ -1,0 +1,101 @@
+// What the iterative measures share: their refusals, and what an edge adds to a vector. The definition of rounds and settled stands in specs/.
+use graph::Answer;
+ghost use mathlib.Core.Path.{_≡_};
+ghost use lib.Ieee.Scale.{finite};
+ghost use Rattle.graph.specs.Refusals.{firstRefusal};
+ghost use Rattle.rounds.specs.Tests.{vectorWrong, lengthWrong, readsWrong, ownTests};
+ghost use Rattle.rounds.specs.Vectors.{currentIn, nextIn, spreads, Vectors, SpreadPre};
+
+// The rows of the table that an iterative measure tests itself.
+pub struct Own {
+    pub number: bool,
+    pub damping: bool,
+    pub rounds: bool,
+    pub lengths: bool,
+    pub start: bool,
+}
+
+// The first refusal in document 01's order, and DONE if nothing refuses. `empties`: the measure answers EMPTY for no nodes;
+// `short`: its result slice is too short; a, b and c are the workspace's lengths.
+pub fn refusal(
+    nodes: usize,
+    from: &[u32],
+    to: &[u32],
+    weight: &[f64],
+    empties: bool,
+    own: Own,
+    short: bool,
+    a: usize,
+    b: usize,
+    c: usize,
+) -> Answer
+    ensures { λ r. ⌜ r ≡ firstRefusal (ownTests nodes (now (from .entry)) (now (to .entry)) (now (weight .entry)) empties own short a b c) ⌝ }
+{
+    let answer = graph::graph_refusal(nodes, from, to, weight, empties, false);
+    if graph::refuses(answer) {
+        return answer;
+    }
+    if own.number {
+        return Answer::Number;
+    }
+    if own.damping {
+        return Answer::Damping;
+    }
+    if own.rounds {
+        return Answer::Rounds;
+    }
+    if own.lengths {
+        return Answer::Length;
+    }
+    if own.start {
+        return Answer::Start;
+    }
+    if short {
+        return Answer::Room;
+    }
+    if graph::work_wrong(graph::usual_fronts(nodes, from.len()), a, b, c) {
+        return Answer::Room;
+    }
+    Answer::Done
+}
+
+// An infinity or a NaN among the weights, the damping, the tolerance and, if it is given, the vector.
+pub fn reads_wrong(
+    weight: &[f64],
+    damping: f64,
+    tolerance: f64,
+    given: bool,
+    vector: &[f64],
+) -> bool
+    ensures { λ r. ⌜ r ≡ readsWrong (now (weight .entry)) damping tolerance given (now (vector .entry)) ⌝ }
+{
+    if graph::number_wrong(weight) {
+        return true;
+    }
+    if graph::is_finite(damping) {
+        if graph::is_finite(tolerance) {
+            return vector_wrong(given, vector);
+        }
+    }
+    true
+}
+
+// The vector is given, and one of its entries is an infinity or a NaN.
+fn vector_wrong(given: bool, vector: &[f64]) -> bool
+    ensures { λ r. ⌜ r ≡ vectorWrong given (now (vector .entry)) ⌝ }
+{
+    if given {
+        return graph::number_wrong(vector);
+    }
+    false
+}
+
+// A vector is given, and has not as many entries as there are nodes.
+pub fn length_wrong(given: bool, long: usize, nodes: usize) -> bool
+    ensures { λ r. ⌜ r ≡ lengthWrong given long nodes ⌝ }
+{
+    if given {
+        return long != nodes;
+    }
+    false
+}
