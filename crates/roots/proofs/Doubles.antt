@@ -132,6 +132,6 @@ made k n lo hi K = go (eq-or-lt-of-le hi)
         let z : 2 ^ 52 + (n - 2 ^ 52) ≡ n = omega arith in
         whole (n - 2 ^ 52) k (omega arith) (omega arith) (omega arith) (ap (λ (x : ℕ). x * 2 ^ k) z)
 
--- ---- what stands up to the infinity's bits is no NaN's pattern
-pub no-nan : (b : ℕ) → b ≤ 2047 * 2 ^ 52 → T (not (nanBits binary64 b))
-no-nan b h = let l : b % 2 ^ 63 ≤ 2047 * 2 ^ 52 = omega arith in subst (λ (t : Bool). T (not t)) (sym (nanBits-above binary64 b)) (le→nltb (2047 * 2 ^ 52) (b % 2 ^ 63) l)
+-- ---- a magnitude up to the infinity's is no NaN's
+pub no-nan : (b : ℕ) → b % 2 ^ 63 ≤ 2047 * 2 ^ 52 → T (not (nanBits binary64 b))
+no-nan b h = subst (λ (t : Bool). T (not t)) (sym (nanBits-above binary64 b)) (le→nltb (2047 * 2 ^ 52) (b % 2 ^ 63) h)
