@@ -1,0 +1,41 @@
+-- What passes between C and the calls: flags as numbers, what a call said as a struct of numbers. Definitions only.
+use mathlib.Core.Bool.{Bool, true, false, not}
+use Prim.Native.Nat.{ℕ}
+use lib.Dec.{eqb}
+use Rattle.regions.specs.Region.{zeroF}
+use Rattle.graph.specs.declared.Rounds.{Rounds}
+use Rattle.graph.specs.Answers.{Said, done, refusal}
+use Rattle.meadowrut.specs.declared.Settings.{Settings}
+use Rattle.meadowrut.specs.declared.Report.{Report}
+use Rattle.meadowrut.specs.declared.Election.{Election}
+use Rattle.graph.specs.declared.Settings.{Settings as Asked}
+
+-- a flag is raised unless it is 0
+abbrev pub raised : ℕ → Bool
+raised k = not (eqb k 0)
+
+-- 1 for yes, 0 for no
+abbrev pub asNumber : Bool → ℕ
+asNumber true = 1
+asNumber false = 0
+
+-- the settings as the calls take them, and as C has them
+abbrev pub asked : Settings → Asked
+asked s = record { damping = s .damping; tolerance = s .tolerance; limit = s .limit }
+
+abbrev pub returned : Asked → Settings
+returned s = record { damping = s .damping; tolerance = s .tolerance; limit = s .limit }
+
+-- every number of a refusal's struct but its answer is 0
+abbrev pub noSettings : Settings
+noSettings = record { damping = zeroF; tolerance = zeroF; limit = 0 }
+
+-- what an iterative call said
+abbrev pub reported : Said Rounds → Report
+reported (done r) = record { answer = 0; settled = asNumber (r .settled); rounds = r .rounds; settings = returned (r .settings) }
+reported (refusal k) = record { answer = k; settled = 0; rounds = 0; settings = noSettings }
+
+-- what an election said
+abbrev pub counted : Said ℕ → Election
+counted (done k) = record { answer = 0; elected = k }
+counted (refusal k) = record { answer = k; elected = 0 }
