@@ -1,17 +1,15 @@
 -- Absolute values by bits, and what the sign's bit is. Assumes nothing.
-use Prim.Native.Nat.{ℕ, zero, suc, _+_, _-_, _*_, _/_, _%_, _^_, _≤_, _<_}
+use Prim.Native.Nat.{ℕ, zero, suc, _+_, _*_, _%_, _^_, _≤_, _<_}
 use mathlib.Core.Path.{_≡_, refl, sym, ap, _∙_, subst}
 use mathlib.Core.Bool.{Bool, true, false, not, cond, true≢false}
-use native.Mathlib.Nat.{add-assoc}
 use native.Mathlib.Omega.{arith}
 use borrow.Author.Tests.{ltb-false}
 use lib.IntN.{ℤ}
 use lib.Dec.{T, ltb}
-use lib.Ieee.{Float, nan, inf, fin, binary64, size, ne, fits, isNan, ofBits, toBits}
+use lib.Ieee.{Float, nan, inf, fin, binary64, ne, fits, isNan, ofBits, toBits}
 use lib.Ieee.Fits.{inf-fits}
 use lib.Ieee.Bits.{ofBits-toBits, toBits-lt, nanBits-above, nanBits-is, is-false}
 use lib.Ieee.Compare.{differs-from-itself}
-use Rattle.roots.specs.Root.{parts}
 use Rattle.roots.specs.Absolute.{absOf}
 use Rattle.roots.specs.Fields.{signOf}
 

@@ -2,17 +2,16 @@
 use Prim.Native.Nat.{ℕ, zero, suc, _+_, _-_, _*_, _/_, _%_, _^_, _≤_, _<_}
 use mathlib.Core.Path.{_≡_, refl, sym, ap, _∙_, subst}
 use mathlib.Core.Logic.{_⊎_, inl, inr}
-use mathlib.Core.Bool.{Bool, true, false, not, _&&_, cond}
-use native.Mathlib.Nat.{le-refl, le-trans, le-of-eq, le-of-lt, le-of-suc-le-suc, lt-of-lt-of-le, lt-of-le-of-lt, lt-of-not-le, lt-irrefl, not-le-of-lt, eq-or-lt-of-le, zero-lt-suc, zero-mul, zero-div, mul-one, mul-assoc, mul-right-comm, mul-le-mul-left, mul-lt-mul-of-pos-right, mul-div-cancel, pow-succ', div-one, div-lt-iff-lt-mul}
-use native.Mathlib.Numerals.{add-one}
+use mathlib.Core.Bool.{Bool, false, not, _&&_, cond}
+use native.Mathlib.Nat.{le-trans, le-of-eq, le-of-suc-le-suc, lt-of-lt-of-le, lt-of-le-of-lt, lt-of-not-le, lt-irrefl, not-le-of-lt, eq-or-lt-of-le, zero-mul, zero-div, mul-one, mul-assoc, mul-right-comm, mul-le-mul-left, mul-lt-mul-of-pos-right, mul-div-cancel, pow-succ', div-one, div-lt-iff-lt-mul}
 use native.Mathlib.Omega.{arith}
 use lib.IntN.{ℤ, pos, negsuc}
 use lib.Dec.{T, leb, ltb, eqb, leb→le, ltb→lt, eqb→eq, not-T, lit<}
 use lib.Arith.{lt→nleb, le→nltb}
 use lib.Pow.{pow-add, pow-pos, pow-mono, pow-lt}
-use lib.Ieee.{Float, nan, inf, fin, binary64, up, down, size, odd, fits, ofFields, ofBits, toBits, nanBits}
-use lib.Ieee.Digits.{back, size-le, size-reaches}
-use lib.Ieee.Fits.{and-l, and-r, up-pos, down-pos, kept-lt}
+use lib.Ieee.{Float, nan, inf, fin, binary64, up, down, odd, fits, ofFields, ofBits, nanBits}
+use lib.Ieee.Digits.{back}
+use lib.Ieee.Fits.{and-l, and-r, down-pos}
 use lib.Ieee.Bits.{is-false, cond-no, nanBits-above}
 use lib.Ieee.Exact.{HasValue, odd-sign}
 use lib.Ieee.Scale.{finite}

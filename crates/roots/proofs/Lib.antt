@@ -7,4 +7,5 @@ pub mod Fields
 pub mod Absolute
 pub mod Sorts
 pub mod Maximum
+pub mod Finite
 pub mod Unique

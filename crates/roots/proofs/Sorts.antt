@@ -1,5 +1,5 @@
 -- Which sort of double has which sign, exponent and fraction, and what its root is: `sqrtOf` is right. Assumes nothing.
-use Prim.Native.Nat.{ℕ, zero, suc, _+_, _-_, _*_, _/_, _%_, _^_, _≤_, _<_}
+use Prim.Native.Nat.{ℕ, zero, suc, _+_, _-_, _*_, _/_, _%_, _^_, _<_}
 use mathlib.Core.Path.{_≡_, refl, sym, ap, _∙_, subst}
 use mathlib.Core.Logic.{_⊎_, inl, inr}
 use mathlib.Core.Bool.{Bool, true, false, not}
@@ -11,7 +11,7 @@ use lib.Ieee.Bits.{ofBits-toBits, toBits-lt}
 use Rattle.roots.specs.Fields.{signOf, exponentOf, fractionOf}
 use Rattle.roots.specs.Root.{SquareRoot, IsRoot, parts, sqrtOf, rootOf}
 use Rattle.roots.proofs.Doubles.{none}
-use Rattle.roots.proofs.Lifted.{partsOf, rootOf-is}
+use Rattle.roots.proofs.Lifted.{rootOf-is}
 use Rattle.roots.proofs.Absolute.{sign-bit, rest-bits}
 use Rattle.roots.proofs.Fields.{Bits, toBits-is, bits-of}
 

@@ -1,5 +1,5 @@
 -- No second outcome meets the contract of `sqrt`, `abs` or `max`. Assumes nothing.
-use Prim.Native.Nat.{ℕ, zero, suc, _+_, _*_, _^_, _<_}
+use Prim.Native.Nat.{ℕ, zero, suc, _*_, _^_, _<_}
 use mathlib.Core.Path.{_≡_, sym, ap, _∙_, subst}
 use mathlib.Core.Bool.{true, false}
 use native.Mathlib.Nat.{add-comm, lt-irrefl, lt-trans}

@@ -1,7 +1,6 @@
 // Square root, absolute value and maximum of doubles, by their bits. Each call takes every double.
 ghost use mathlib.Core.Path.{_≡_};
-ghost use Prim.Native.Nat.{ℕ, _+_, _*_, _^_, _<_, _≤_};
-ghost use lib.Ieee.{Float};
+ghost use Prim.Native.Nat.{_+_, _*_, _^_, _<_, _≤_};
 ghost use Rattle.roots.specs.Root.{SquareRoot, isqrt, roundRoot, rootAt, rootOf, sqrtOf};
 ghost use Rattle.roots.specs.Absolute.{absOf};
 ghost use Rattle.roots.specs.Maximum.{maxOf};
@@ -26,12 +25,14 @@ pub fn sqrt(x: f64) -> f64
     let sign = bits >> 63;
     let exponent = (bits >> 52) & EXPONENT;
     let fraction = bits & FRACTION;
+    // Both zeros.
     if exponent + fraction == 0 {
         return x;
     }
     if sign == 1 {
         return 0.0 / 0.0;
     }
+    // +infinity.
     if exponent == EXPONENT {
         return x;
     }
@@ -67,7 +68,8 @@ pub fn max(a: f64, b: f64) -> f64
     a
 }
 
-// The root of the double above zero with this exponent and this fraction. A subnormal is brought up by its leading zeros first.
+// The root of the double above zero with this exponent and this fraction: a * 2 ^ (exponent - 1) parts of 2 ^ -1074, a of 53 binary digits.
+// A subnormal is brought up to them by its leading zeros first, beyond the 11 that every a has.
 fn root_of(exponent: u64, fraction: u64) -> f64
     requires { ⌜ (exponent < 2047) × (fraction < 2 ^ 52) × (0 < exponent + fraction) ⌝ }
     ensures { λ r. ⌜ r ≡ rootOf exponent fraction ⌝ }

@@ -1,7 +1,6 @@
 -- P8 of document 01, the roots, computed from the definition that the contract of `sqrt` cites; and `abs` and `max` beside it. Assumes nothing.
 use mathlib.Core.Path.{_≡_, refl}
 use mathlib.Core.Bool.{true, false}
-use Prim.Native.Nat.{ℕ}
 use lib.IntN.{pos, negsuc}
 use lib.Count.{leadingZeros}
 use lib.Ieee.{Float, nan, inf, fin, binary64, lt, eq, isNan, ofBits, toBits}

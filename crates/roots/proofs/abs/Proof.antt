@@ -1,6 +1,5 @@
 -- `roots::abs` meets its contract: the mask clears the sign's bit. Assumes nothing.
-use Prim.Native.Nat.{ℕ, _≤_, _%_, _*_, _^_}
-use mathlib.Core.Path.{_≡_, sym, subst}
+use mathlib.Core.Path.{sym, subst}
 use native.Mathlib.Omega.{arith}
 use lib.Dec.{T}
 use lib.Bits.{and-mask}

@@ -2,7 +2,6 @@
 use Prim.Native.Nat.{ℕ, _≤_, _<_, _-_, _*_, _%_, _^_}
 use mathlib.Core.Path.{_≡_}
 use native.Mathlib.Omega.{arith}
-use borrow.Author.Needs.{needs}
 use lib.Bits.{bitAnd, and-mask}
 use Rattle.roots.proofs.Squares.{is-isqrt}
 use Rattle.roots.proofs.Digits.{Taken, none, one, zero, all, below}

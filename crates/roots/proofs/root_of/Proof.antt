@@ -5,7 +5,6 @@ use mathlib.Core.Path.{_≡_, refl, sym, ap, _∙_, subst}
 use native.Mathlib.Nat.{mod-eq-of-lt}
 use native.Mathlib.Omega.{arith}
 use lib.Count.{leadingZeros, leading-le}
-use lib.Ieee.{Float}
 use Rattle.roots.specs.Root.{rootAt, rootOf}
 use Rattle.roots.proofs.Lifted.{Lifted, lifted}
 use Rattle.roots.proofs.root_of.Statement.{statement}
