@@ -1,0 +1,6 @@
+pub mod Numbers
+pub mod Words
+pub mod Patterns
+pub mod Stores
+pub mod Numerals
+pub mod Example
