@@ -1,3 +1,4 @@
 pub mod Spans
 pub mod Edges
 pub mod Measures
+pub mod Tops

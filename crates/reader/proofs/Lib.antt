@@ -1,0 +1,4 @@
+pub mod Reading
+pub mod Weights
+pub mod Jobs
+pub mod Example
