@@ -12,7 +12,7 @@ use native.Mathlib.Omega.{arith}
 use mathlib.Core.Logic.{⊎-elim}
 use Rattle.text.specs.Text.{isWord}
 use Rattle.lines.specs.declared.Measure.{Measure}
-use Rattle.lines.specs.declared.Measure.the-variants.{Degree}
+use Rattle.lines.specs.declared.Measure.the-variants.{Betweenness, Pagerank, Personalized, Eigenvector, Katz, Reaching, Voterank, Laplacian, Degree}
 use Rattle.lines.specs.declared.Named.{Named}
 use Rattle.lines.specs.declared.Named.the-variants.{Measured, Unknown}
 use Rattle.lines.specs.Names.{measures, nameOf, firstNamed}
@@ -42,3 +42,15 @@ from-nought i = omega arith
 
 pub none-of : {i : ℕ} → (i ≡ 0 → ⊥) → (i ≡ 1 → ⊥) → (i ≡ 2 → ⊥) → (i ≡ 3 → ⊥) → (i ≡ 4 → ⊥) → (i ≡ 5 → ⊥) → (i ≡ 6 → ⊥) → (i ≡ 7 → ⊥) → 8 ≤ i
 none-of {i} a b c d e f g h = past 7 (past 6 (past 5 (past 4 (past 3 (past 2 (past 1 (past 0 (from-nought i) a) b) c) d) e) f) g) h
+
+-- no name has more than 12 bytes
+pub name-long : (measure : Measure) → length (nameOf measure) ≤ 12
+name-long Betweenness = omega arith
+name-long Pagerank = omega arith
+name-long Personalized = omega arith
+name-long Eigenvector = omega arith
+name-long Katz = omega arith
+name-long Reaching = omega arith
+name-long Voterank = omega arith
+name-long Laplacian = omega arith
+name-long Degree = omega arith

@@ -1,11 +1,12 @@
 -- Laws of digits: how many there are, and the last one.
 -- Assumes nothing.
 use mathlib.Core.Path.{_≡_, refl, sym, ap, _∙_}
-use mathlib.Core.Bool.{cond}
+use mathlib.Core.Bool.{Bool, true, false, cond}
 use mathlib.Core.List.{List, [], _∷_, _++_}
 use Prim.Native.Nat.{ℕ, zero, suc, _+_, _-_, _/_, _%_, _<_, _≤_}
 use native.Mathlib.Numerals.{add-one}
 use native.Mathlib.Omega.{arith}
+use lib.Dec.{ltb}
 use lib.ListN.{length, set, length-append}
 use lib.Seq.{sets}
 use borrow.Author.Tests.{lt-ltb, le-ltb}
@@ -40,3 +41,13 @@ no-more m v e = rw e
 pub one-more : (m n v : ℕ) → m ≡ n + 1 → 10 ≤ v → countIn m v ≡ countIn n (v / 10) + 1
 unfolding countIn
 one-more m n v e h = rw (e, add-one n, le-ltb v 10 h)
+
+-- no decimal has more digits than its count allows
+pub count-long : (m v : ℕ) → countIn m v ≤ m + 1
+unfolding countIn
+count-long zero v = omega arith
+count-long (suc m) v = either (ltb v 10) (count-long m (v / 10))
+  where
+    either : (t : Bool) → countIn m (v / 10) ≤ m + 1 → cond t 1 (countIn m (v / 10) + 1) ≤ suc m + 1
+    either true h = omega arith
+    either false h = omega arith
