@@ -9,3 +9,6 @@ pub mod Partial
 pub mod Search
 pub mod Workspace
 pub mod Limits
+pub mod Scans
+pub mod Runs
+pub mod Forgetting

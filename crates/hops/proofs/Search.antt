@@ -359,7 +359,7 @@ module _ {g : Graph} {limit s : ℕ} {w c : List ℕ} {D Q head tail u j : ℕ} 
             ways = λ v hv. sym (ways v hv);
             small = λ v hv. omega (arith, ways v hv, S .small v hv);
             taken = tail-most S;
-            queued = λ i l. m .nodes (getD w (Q + i) 0) (subst (λ (l : List ℕ). List·Memᴰ (getD w (Q + i) 0) l) q (place-mem i l));
+            queued = λ i l. let k = in-queue i l in (m .nodes (getD w (Q + i) 0) k, λ z. labelled m (getD w (Q + i) 0) k (sym (dists (getD w (Q + i) 0) (m .nodes (getD w (Q + i) 0) k)) ∙ z));
             reached = λ v hv r. there v (mem-getD (listOf (cells w Q) tail) v (subst (λ (l : List ℕ). List·Memᴰ v l) (sym q) (queued m v hv (λ z. r (dists v hv ∙ z)))));
           }
         where
@@ -377,6 +377,9 @@ module _ {g : Graph} {limit s : ℕ} {w c : List ℕ} {D Q head tail u j : ℕ} 
               subst (λ (x : ℕ). List·Memᴰ x (listOf (cells w Q) tail)) (list-at (cells w Q) tail 0 i l)
               (getD-mem (listOf (cells w Q) tail) i (omega (arith, list-long (cells w Q) tail)))
 
+          in-queue : (i : ℕ) → i < tail → List·Memᴰ (getD w (Q + i) 0) (S .done ++ (u ∷ []))
+          in-queue i l = subst (λ (l : List ℕ). List·Memᴰ (getD w (Q + i) 0) l) q (place-mem i l)
+
           there : (v : ℕ) → (i : ℕ) × (i < length (listOf (cells w Q) tail)) × (getD (listOf (cells w Q) tail) i 0 ≡ v) → (i : ℕ) × (i < tail) × (getD w (Q + i) 0 ≡ v)
           there v r = let l : r .0 < tail = omega (arith, r .1, list-long (cells w Q) tail) in (r .0, l, sym (list-at (cells w Q) tail 0 (r .0) l) ∙ r .2)
 
@@ -389,6 +392,13 @@ begin-pre H =
       distance = omega (arith, H .start, H .apart, H .room);
       slot = omega (arith, H .start, H .room);
       counted = omega (arith, H .start, H .counts);
+    }
+
+pub begun-kept : {g : Graph} {s : ℕ} {w c w′ c′ : List ℕ} {D Q : ℕ} → Space g s w c D Q → Begun s D Q w c w′ c′ → Kept (g .nodes) D Q w c w′ c′
+begun-kept {g} {s} {w} {c} {w′} {c′} {D} {Q} H B =
+    record {
+      narrow = subst (λ (t : List ℕ). Frame2 w D (g .nodes) Q (g .nodes) t) (sym (B .stored)) (frame2-set-right Q s (frame2-set-left (D + s) 0 (frame2-none w D (g .nodes) Q (g .nodes)) (omega arith) (omega (arith, H .start))) (omega arith) (omega (arith, H .start)));
+      wide = subst (λ (t : List ℕ). Front c (g .nodes) t) (sym (B .counted)) (front-set s 1 (front-none c (g .nodes)) (H .start));
     }
 
 -- s alone has a distance and a count, and stands first in the queue

@@ -10,6 +10,8 @@ use Rattle.regions.specs.Region.{listOf, Front, Frame2}
 use Rattle.graph.specs.Edges.{Edge, Graph, entries}
 use Rattle.hops.specs.declared.Step.{Step}
 use Rattle.hops.specs.declared.Step.the-variants.{First, Again, Other, Paths}
+use Rattle.hops.specs.declared.Reached.{Reached}
+use Rattle.hops.specs.declared.Reached.the-variants as reached
 use Rattle.hops.specs.Sum.{sumOver, onlyIf, same, times}
 use Rattle.hops.specs.Hops.{unreached, Valid, dist, count}
 
@@ -127,7 +129,7 @@ pub record Found (g : Graph) (limit s : ℕ) (w c : List ℕ) (D Q tail : ℕ) :
   pub ways : (v : ℕ) → v < g .nodes → getD c v 0 ≡ count g s v
   pub small : (v : ℕ) → v < g .nodes → count g s v ≤ limit
   pub taken : tail ≤ g .nodes
-  pub queued : (i : ℕ) → i < tail → getD w (Q + i) 0 < g .nodes
+  pub queued : (i : ℕ) → i < tail → (getD w (Q + i) 0 < g .nodes) × (dist g s (getD w (Q + i) 0) ≢ unreached)
   pub reached : (v : ℕ) → v < g .nodes → dist g s v ≢ unreached → (i : ℕ) × (i < tail) × (getD w (Q + i) 0 ≡ v)
 
 -- a node with more fewest hop sequences from s than the limit
@@ -194,3 +196,64 @@ tooMany First = false
 tooMany Again = false
 tooMany Other = false
 tooMany Paths = true
+
+-- ---- the loops
+
+-- there is a graph whose search from some start stands at place `head` of the queue
+pub record Visiting (n limit D Q head tail : ℕ) (w c : List ℕ) : Type 0 where
+  pub directed : Bool
+  pub edges : List Edge
+  pub start : ℕ
+  pub search : Search (graphOf n directed edges) limit start w c D Q head tail (getD w (Q + head) 0) 0
+
+-- the node u has been visited: its entries are all looked at, or a count exceeds the limit
+abbrev pub Visited : Graph → (limit s D Q head u : ℕ) (w′ c′ : List ℕ) → Reached → Type 0
+Visited g limit s D Q head u w′ c′ (reached.Nodes tail) = Search g limit s w′ c′ D Q head tail u (length (entries g u))
+Visited g limit s D Q head u w′ c′ reached.Paths = TooMany g limit s
+
+-- what a visit leaves, of every graph and start whose search it goes on with
+pub record VisitPost (n limit D Q head tail : ℕ) (w c w′ c′ : List ℕ) (r : Reached) : Type 0 where
+  pub kept : Kept n D Q w c w′ c′
+  pub visited : (directed : Bool) (es : List Edge) (s : ℕ) → Search (graphOf n directed es) limit s w c D Q head tail (getD w (Q + head) 0) 0
+      → Visited (graphOf n directed es) limit s D Q head (getD w (Q + head) 0) w′ c′ r
+
+-- a search is over, or a count exceeds the limit
+abbrev pub Ended : Graph → (limit s D Q : ℕ) (w′ c′ : List ℕ) → Reached → Type 0
+Ended g limit s D Q w′ c′ (reached.Nodes tail) = Found g limit s w′ c′ D Q tail
+Ended g limit s D Q w′ c′ reached.Paths = TooMany g limit s
+
+-- what the visits leave from the start on, of every graph and start
+pub record OnPost (n limit D Q : ℕ) (w c w′ c′ : List ℕ) (r : Reached) : Type 0 where
+  pub kept : Kept n D Q w c w′ c′
+  pub ended : (directed : Bool) (es : List Edge) (s : ℕ) → Search (graphOf n directed es) limit s w c D Q 0 1 (getD w (Q + 0) 0) 0
+      → Ended (graphOf n directed es) limit s D Q w′ c′ r
+
+-- there is a graph whose rows stand in w, and no node has a distance or a count
+pub record SearchPre (n s limit D Q : ℕ) (w c : List ℕ) : Type 0 where
+  pub directed : Bool
+  pub edges : List Edge
+  pub space : Space (graphOf n directed edges) s w c D Q
+  pub fresh : Fresh n w c D
+  pub some : 1 ≤ limit
+
+-- what the whole search leaves, of every graph whose rows stand in w
+pub record SearchPost (n s limit D Q : ℕ) (w c w′ c′ : List ℕ) (r : Reached) : Type 0 where
+  pub kept : Kept n D Q w c w′ c′
+  pub ended : (directed : Bool) (es : List Edge) → Space (graphOf n directed es) s w c D Q → Ended (graphOf n directed es) limit s D Q w′ c′ r
+
+-- ---- back to the beginning
+
+-- what `forget` asks: the first `tail` places of the queue are nodes, with their distances before the queue
+pub record ForgetPre (tail D Q : ℕ) (w c : List ℕ) : Type 0 where
+  pub room : Q + tail ≤ length w
+  pub before : (i : ℕ) → i < tail → D + getD w (Q + i) 0 < Q
+  pub counted : (i : ℕ) → i < tail → getD w (Q + i) 0 < length c
+
+-- the nodes at the first `tail` places of the queue have no distance and no count, and all else is as it was
+pub record Forgotten (tail D Q : ℕ) (w c w′ c′ : List ℕ) : Type 0 where
+  pub long : length w′ ≡ length w
+  pub long-counts : length c′ ≡ length c
+  pub far : (i : ℕ) → i < tail → getD w′ (D + getD w (Q + i) 0) 0 ≡ unreached
+  pub none : (i : ℕ) → i < tail → getD c′ (getD w (Q + i) 0) 0 ≡ 0
+  pub kept : (k : ℕ) → ((i : ℕ) → i < tail → k ≢ D + getD w (Q + i) 0) → getD w′ k 0 ≡ getD w k 0
+  pub kept-counts : (k : ℕ) → ((i : ℕ) → i < tail → k ≢ getD w (Q + i) 0) → getD c′ k 0 ≡ getD c k 0

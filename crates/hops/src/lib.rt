@@ -2,7 +2,7 @@
 ghost use mathlib.Core.Path.{_≡_};
 ghost use Prim.Native.Nat.{_+_, _≤_, _<_};
 ghost use lib.ListN.{length};
-ghost use Rattle.hops.specs.Search.{BeginPre, Begun, TouchPre, Touched, grown, tooMany};
+ghost use Rattle.hops.specs.Search.{SearchPre, SearchPost, OnPost, Visiting, VisitPost, BeginPre, Begun, TouchPre, Touched, grown, tooMany, ForgetPre, Forgotten};
 
 // What stands for "not reached".
 pub const UNREACHED: u32 = 4294967295;
@@ -10,12 +10,93 @@ pub const UNREACHED: u32 = 4294967295;
 // The most paths that are counted: 2^53.
 pub const PATH_LIMIT: u64 = 9007199254740992;
 
+// How far a search has come: so many nodes stand in its queue, or a count exceeds the limit.
+pub enum Reached {
+    Nodes(usize),
+    Paths,
+}
+
 // What one entry of a row was to a search.
 pub enum Step {
     First,
     Again,
     Other,
     Paths,
+}
+
+// The whole search from one start, over rows at the front of w: distances from `distances` of w, a queue from `queue`, counts in `counts`.
+pub fn search_from(
+    nodes: usize,
+    start: usize,
+    limit: u64,
+    distances: usize,
+    queue: usize,
+    w: &mut [u32],
+    counts: &mut [u64],
+) -> Reached
+    requires { ⌜ SearchPre nodes start limit distances queue (now w) (now counts) ⌝ }
+    ensures { λ r. ⌜ SearchPost nodes start limit distances queue (now (w .entry)) (now (counts .entry)) (now (w .exit)) (now (counts .exit)) r ⌝ }
+{
+    begin(start, distances, queue, w, counts);
+    search_on(nodes, limit, distances, queue, w, counts)
+}
+
+// From the start alone in the queue to its end: each node's entries in turn.
+fn search_on(
+    nodes: usize,
+    limit: u64,
+    distances: usize,
+    queue: usize,
+    w: &mut [u32],
+    counts: &mut [u64],
+) -> Reached
+    requires { ⌜ Visiting nodes limit distances queue 0 1 (now w) (now counts) ⌝ }
+    ensures { λ r. ⌜ OnPost nodes limit distances queue (now (w .entry)) (now (counts .entry)) (now (w .exit)) (now (counts .exit)) r ⌝ }
+{
+    let mut head = 0;
+    let mut tail = 1;
+    while head < tail {
+        let reached = visit(nodes, limit, distances, queue, head, tail, w, counts);
+        let Reached::Nodes(end) = reached else {
+            return Reached::Paths;
+        };
+        tail = end;
+        head += 1;
+    }
+    Reached::Nodes(tail)
+}
+
+// All entries of the node at place `head` of the queue, of which `tail` places are taken.
+fn visit(
+    nodes: usize,
+    limit: u64,
+    distances: usize,
+    queue: usize,
+    head: usize,
+    tail: usize,
+    w: &mut [u32],
+    counts: &mut [u64],
+) -> Reached
+    requires { ⌜ Visiting nodes limit distances queue head tail (now w) (now counts) ⌝ }
+    ensures { λ r. ⌜ VisitPost nodes limit distances queue head tail (now (w .entry)) (now (counts .entry)) (now (w .exit)) (now (counts .exit)) r ⌝ }
+{
+    let u = w[queue + head] as usize;
+    let further = w[distances + u] + 1;
+    let ways = counts[u];
+    let rows = nodes + 1;
+    let end = rows + w[u + 1] as usize;
+    let mut p = rows + w[u] as usize;
+    let mut place = queue + tail;
+    while p < end {
+        let x = w[p];
+        let step = touch(x, further, ways, limit, distances, place, w, counts);
+        if too_many(step) {
+            return Reached::Paths;
+        }
+        place = place + grown(step);
+        p += 1;
+    }
+    Reached::Nodes(place - queue)
 }
 
 // The start alone is reached: no hops, one way, first in the queue.
@@ -83,5 +164,19 @@ pub fn too_many(t: Step) -> bool
         Step::Again => false,
         Step::Other => false,
         Step::Paths => true,
+    }
+}
+
+// Takes back what a search found: the nodes at the first `tail` places of the queue have no distance and no count.
+pub fn forget(tail: usize, distances: usize, queue: usize, w: &mut [u32], counts: &mut [u64])
+    requires { ⌜ ForgetPre tail distances queue (now w) (now counts) ⌝ }
+    ensures { λ _. ⌜ Forgotten tail distances queue (now (w .entry)) (now (counts .entry)) (now (w .exit)) (now (counts .exit)) ⌝ }
+{
+    let mut i = 0;
+    while i < tail {
+        let v = w[queue + i] as usize;
+        w[distances + v] = UNREACHED;
+        counts[v] = 0;
+        i += 1;
     }
 }
