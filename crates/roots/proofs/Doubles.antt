@@ -8,6 +8,7 @@ use native.Mathlib.Omega.{arith}
 use lib.IntN.{ℤ, pos, negsuc}
 use lib.Dec.{T, leb, ltb, eqb, leb→le, ltb→lt, eqb→eq, not-T, lit<}
 use lib.Arith.{lt→nleb, le→nltb}
+use lib.Bits.{bitAnd, and-mod, and-le-l}
 use lib.Pow.{pow-add, pow-pos, pow-mono, pow-lt}
 use lib.Ieee.{Float, nan, inf, fin, binary64, up, down, odd, fits, ofFields, ofBits, nanBits}
 use lib.Ieee.Digits.{back}
@@ -134,3 +135,7 @@ made k n lo hi K = go (eq-or-lt-of-le hi)
 -- ---- a magnitude up to the infinity's is no NaN's
 pub no-nan : (b : ℕ) → b % 2 ^ 63 ≤ 2047 * 2 ^ 52 → T (not (nanBits binary64 b))
 no-nan b h = subst (λ (t : Bool). T (not t)) (sym (nanBits-above binary64 b)) (le→nltb (2047 * 2 ^ 52) (b % 2 ^ 63) h)
+
+-- and no mask makes one of it
+pub masked : (b m : ℕ) → b % 2 ^ 63 ≤ 2047 * 2 ^ 52 → T (not (nanBits binary64 (bitAnd b m)))
+masked b m h = no-nan (bitAnd b m) (omega (arith, and-mod b m 63, and-le-l (b % 2 ^ 63) (m % 2 ^ 63)))

@@ -1,10 +1,9 @@
 -- `roots::abs` meets its contract: the mask clears the sign's bit. Assumes nothing.
 use mathlib.Core.Path.{sym, subst}
-use native.Mathlib.Omega.{arith}
 use lib.Dec.{T}
 use lib.Bits.{and-mask}
 use lib.Ieee.{binary64, fits, toBits}
-use Rattle.roots.proofs.Doubles.{no-nan}
+use Rattle.roots.proofs.Doubles.{masked}
 use Rattle.roots.proofs.Absolute.{is-nan, not-nan, abs-nan, abs-of, small-bits}
 use Rattle.roots.proofs.abs.Statement.{statement}
 use Rattle.roots.proofs.abs.Tie as tie
@@ -19,10 +18,7 @@ float-to-bits-result : tie.Need-float-to-bits-result
 float-to-bits-result c = not-nan (c .before .args .x) (c .if1 .left)
 
 float-from-bits-result : tie.Need-float-from-bits-result
-float-from-bits-result c =
-    let x = c .before .args .x in
-    let b = toBits binary64 x in
-    no-nan _ (omega (arith, and-mask b 63, small-bits x (held (c .before)) (not-nan x (c .if1 .left))))
+float-from-bits-result c = let x = c .before .args .x in masked _ _ (small-bits x (held (c .before)) (not-nan x (c .if1 .left)))
 
 returns-2 : tie.Need-returns-2
 returns-2 c = let x = c .before .args .x in abs-of x _ (held (c .before)) (not-nan x (c .if1 .left)) (and-mask (toBits binary64 x) 63)
