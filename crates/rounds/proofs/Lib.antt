@@ -1,3 +1,4 @@
 pub mod Tests
 pub mod Rounds
 pub mod Says
+pub mod Vectors

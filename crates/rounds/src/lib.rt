@@ -99,3 +99,18 @@ pub fn length_wrong(given: bool, long: usize, nodes: usize) -> bool
     }
     false
 }
+
+// The next vector's entry `row` gains factor times the current one's entry `col`; undirected, with two different ends, then the reverse.
+pub fn spread(nodes: usize, directed: bool, factor: f64, row: usize, col: usize, wf: &mut [f64])
+    requires { ⌜ SpreadPre nodes (now wf) row col ⌝ }
+    ensures { λ _. ⌜ Vectors nodes (now (wf .entry)) (currentIn nodes (now (wf .entry))) (spreads directed factor (currentIn nodes (now (wf .entry))) (nextIn nodes (now (wf .entry))) row col) (now (wf .exit)) ⌝ }
+{
+    wf[nodes + row] = wf[nodes + row] + factor * wf[col];
+    if directed {
+        return;
+    }
+    if row == col {
+        return;
+    }
+    wf[nodes + col] = wf[nodes + col] + factor * wf[row];
+}
