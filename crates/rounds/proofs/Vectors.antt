@@ -88,7 +88,7 @@ module _ (n : ℕ) (directed : Bool) (factor : Float) (row col : ℕ) (w : List 
   spread-both e h =
       let u = gained row col w in
       let b : Vectors n u (currentIn n u) (gains factor (currentIn n u) (nextIn n u) col row) (gained col row u)
-          = gain col row u (omega (arith, pre .room, there .front .long)) (pre .col-in) (pre .row-in) in
+      = gain col row u (omega (arith, pre .room, there .front .long)) (pre .col-in) (pre .row-in) in
       rw (e, ne-eqb row col h)
       (vectors-then there
       (vectors-are (there .current)

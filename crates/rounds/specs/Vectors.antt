@@ -5,7 +5,8 @@ use mathlib.Core.List.{List}
 use Prim.Native.Nat.{ℕ, _+_, _≤_, _<_}
 use lib.Dec.{eqb}
 use lib.ListN.{length, getD, set}
-use lib.Ieee.{Float, nan, binary64, add, sub, mul}
+use lib.Ieee.{Float, nan, binary64, add, sub, mul, lt}
+use Rattle.roots.specs.Root.{sqrtOf}
 use Rattle.regions.specs.Region.{zeroF, part, Front}
 use Rattle.graph.specs.Layout.{scoresAt, nextAt}
 use Rattle.rounds.specs.Rounds.{after}
@@ -34,6 +35,10 @@ withChange x y i sum = add binary64 sum (squared (sub binary64 (entry y i) (entr
 -- the summed squared change from x to y, over n entries in order
 unfoldable pub squaredChange : ℕ → List Float → List Float → Float
 squaredChange n x y = after (withChange x y) n zeroF
+
+-- the stop rule: the root of the summed squared change is below the tolerance
+unfoldable pub settles : Float → ℕ → List Float → List Float → Bool
+settles tolerance n x y = lt (sqrtOf (squaredChange n x y)) tolerance
 
 -- the vector that a round begins with, and the one that it makes, in the floats of a workspace
 abbrev pub currentIn : ℕ → List Float → List Float

@@ -1,9 +1,16 @@
 // What the iterative measures share: their refusals, and what an edge adds to a vector. The definition of rounds and settled stands in specs/.
 use graph::Answer;
+use graph::Ended;
+use graph::Fronts;
+use graph::Refusal;
+use graph::Rounds;
 ghost use mathlib.Core.Path.{_≡_};
 ghost use lib.Ieee.Scale.{finite};
+ghost use Rattle.graph.specs.Answers.{saidEnded};
 ghost use Rattle.graph.specs.Refusals.{firstRefusal};
+ghost use Rattle.graph.specs.Left.{left};
 ghost use Rattle.rounds.specs.Tests.{vectorWrong, lengthWrong, readsWrong, ownTests};
+ghost use Rattle.rounds.specs.Ending.{settledBy, WritePre};
 ghost use Rattle.rounds.specs.Vectors.{currentIn, nextIn, spreads, Vectors, SpreadPre};
 
 // The rows of the table that an iterative measure tests itself.
@@ -113,4 +120,28 @@ pub fn spread(nodes: usize, directed: bool, factor: f64, row: usize, col: usize,
         return;
     }
     wf[nodes + col] = wf[nodes + col] + factor * wf[row];
+}
+
+// The current vector as scores if a stop rule was met, else UNSETTLED; wipes the workspace either way.
+pub fn write_settled(
+    nodes: usize,
+    front: Fronts,
+    ended: Rounds,
+    scores: &mut [f64],
+    w32: &mut [u32],
+    w64: &mut [u64],
+    wf: &mut [f64],
+) -> Ended
+    requires { ⌜ WritePre nodes front (now scores) (now w32) (now w64) (now wf) ⌝ }
+    ensures { λ r. ⌜ left (saidEnded r) (now (scores .exit)) (now (w32 .exit)) (now (w64 .exit)) (now (wf .exit)) ≡ settledBy front ended (currentIn nodes (now (wf .entry))) (now (scores .entry)) (now (w32 .entry)) (now (w64 .entry)) (now (wf .entry)) ⌝ }
+{
+    if ended.settled {
+        regions::copy_outf(wf, 0, nodes, scores);
+        graph::wipe(front, w32, w64, wf);
+        return Ended::Done(ended);
+    }
+    graph::wipe(front, w32, w64, wf);
+    Ended::Refused(Refusal {
+        answer: Answer::Unsettled,
+    })
 }
