@@ -14,14 +14,11 @@ use Rattle.regions.proofs.Fronts.{cleared-long, cleared-at, cleared-front, fron
 use Rattle.graph.specs.Edges.{edgesOf, neighbours}
 use Rattle.rows.specs.Rows.{rowAt, rowsFront, RowsFit, BuildPre, Built}
 use Rattle.rows.specs.Walks.{rowTo, back, countTo, sumTo, cells, CountPre, Counted, SumPre, Summed, PlacePre, Placed}
-use Rattle.rows.proofs.Sums.{sum-same, sum-more, sum-mono, sum-add}
-use Rattle.rows.proofs.Walks.{row-in, total-le}
+use Rattle.rows.proofs.Sums.{sum-same, sum-more, sum-mono}
+use Rattle.rows.proofs.Walks.{row-in}
+use Rattle.rows.proofs.Counting.{back-le, count-total}
 use Rattle.rows.proofs.Neighbours.{rows-are}
 use Rattle.rows.proofs.Reading.{row-length, row-entry}
-
-back-le : (directed : Bool) (i : ℕ) → back directed i ≤ i
-back-le true i = omega arith
-back-le false i = omega arith
 
 module _ (n : ℕ) (directed : Bool) (fs ts : List ℕ) (xs : List Float) (w : List ℕ) (pre : BuildPre n fs ts xs w) where
   abbrev m : ℕ
@@ -45,15 +42,7 @@ module _ (n : ℕ) (directed : Bool) (fs ts : List ℕ) (xs : List Float) (w : L
   start-mono v u l = sum-mono (λ u. countTo directed fs ts u m) v u l
 
   start-total : start n ≤ 2 * m
-  unfolding countTo
-  start-total =
-      omega (
-        arith,
-        sum-add out in′ (λ u. countTo directed fs ts u m) n (λ k. refl),
-        total-le false fs ts n m,
-        total-le true ts fs n (back directed m),
-        back-le directed m,
-      )
+  start-total = count-total directed fs ts n m
 
   start-in : (v : ℕ) → v < n → start (v + 1) ≤ 2 * m
   start-in v l = omega (arith, start-mono (v + 1) n (omega arith), start-total)

@@ -10,8 +10,9 @@ use lib.ListN.{length, getD, set, length-set}
 use Rattle.regions.specs.Region.{Front}
 use Rattle.regions.proofs.Cases.{same-or-not}
 use Rattle.regions.proofs.Fronts.{front-none, front-by, hit, miss}
-use Rattle.rows.specs.Walks.{one, takes, rowTo, back, countTo, EdgePre, EdgeCounted, CountPre, Counted}
-use Rattle.rows.proofs.Walks.{takes-not, takes-own, takes-loop, row-none, long-more, long-le}
+use Rattle.rows.specs.Walks.{one, takes, rowTo, back, countTo, sumTo, EdgePre, EdgeCounted, CountPre, Counted}
+use Rattle.rows.proofs.Walks.{takes-not, takes-own, takes-loop, row-none, long-more, long-le, total-le}
+use Rattle.rows.proofs.Sums.{sum-add}
 
 -- ---- one edge
 abbrev up : List ℕ → ℕ → List ℕ
@@ -68,13 +69,25 @@ unfolding countTo
 count-more true fs ts v i = omega (arith, long-more false fs ts v i)
 count-more false fs ts v i = omega (arith, long-more false fs ts v i, long-more true ts fs v i)
 
-back-le : (directed : Bool) (i : ℕ) → back directed i ≤ i
+pub back-le : (directed : Bool) (i : ℕ) → back directed i ≤ i
 back-le true i = omega arith
 back-le false i = omega arith
 
 count-le : (directed : Bool) (fs ts : List ℕ) (v i : ℕ) → countTo directed fs ts v i ≤ 2 * i
 unfolding countTo
 count-le directed fs ts v i = omega (arith, long-le false fs ts v i, long-le true ts fs v (back directed i), back-le directed i)
+
+-- i edges give at most 2i entries
+pub count-total : (directed : Bool) (fs ts : List ℕ) (n i : ℕ) → sumTo (λ v. countTo directed fs ts v i) n ≤ 2 * i
+unfolding countTo
+count-total directed fs ts n i =
+    omega (
+      arith,
+      sum-add (λ v. length (rowTo false fs ts v i)) (λ v. length (rowTo true ts fs v (back directed i))) (λ v. countTo directed fs ts v i) n (λ k. refl),
+      total-le false fs ts n i,
+      total-le true ts fs n (back directed i),
+      back-le directed i,
+    )
 
 pub none : (n : ℕ) (directed : Bool) (fs ts w : List ℕ) → CountPre n fs ts w → Counting n directed fs ts w 0 w
 none n directed fs ts w pre =

@@ -1,0 +1,5 @@
+pub mod Entries
+pub mod Placing
+pub mod Reading
+pub mod Shares
+pub mod Building
