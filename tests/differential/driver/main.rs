@@ -1,6 +1,7 @@
 //! Compares the library with the unchanged Rust (graphina), call by call and bit by bit. `tests/differential/run` builds it
 //! and says what the modes are for.
 mod case;
+mod differences;
 mod expected;
 mod graphs;
 mod job;
@@ -260,6 +261,7 @@ fn main() {
         "small" => small(&mut t, get("--edges", 4) as usize),
         "random" => random(&mut t, count, seed),
         "limits" => limits::run(&mut t),
+        "differences" => differences::run(&mut t),
         "full" => full(&mut t, count, seed),
         "jobs" => jobs(&mut t, count, seed),
         "roots" => roots(&mut t, count, seed),
@@ -267,7 +269,7 @@ fn main() {
         "list-calls" => return sample::list_calls(seed),
         "list-jobs" => return sample::list_jobs(seed),
         _ => {
-            eprintln!("modes: neighbours small random limits full jobs roots replay list-calls list-jobs");
+            eprintln!("modes: neighbours small random limits differences full jobs roots replay list-calls list-jobs");
             std::process::exit(2);
         }
     }
