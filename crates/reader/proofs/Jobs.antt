@@ -4,7 +4,11 @@ use mathlib.Core.Path.{_≡_, refl, sym, ap, _∙_}
 use mathlib.Core.List.{List, []}
 use Prim.Native.Nat.{ℕ, _+_}
 use lib.Dec.{eqb}
-use borrow.Author.Tests.{eq-eqb, ne-eqb}
+use mathlib.Core.Bool.{Bool, true, false, cond}
+use native.Mathlib.Omega.{arith}
+use lib.ListN.{length}
+use borrow.Author.Tests.{eq-eqb, ne-eqb, eqb-true}
+use Rattle.reader.proofs.Weights.{all-there}
 use Rattle.reader.specs.Job.{headOf}
 use Rattle.reader.specs.declared.Head.{Head}
 use Rattle.reader.specs.declared.HeadRead.{HeadRead}
@@ -63,3 +67,18 @@ asked s head at fault h e z = rw (h, edges-are s head at h, ← e, eq-eqb fault 
 pub edge-fault : (s : List ℕ) (head : Head) (at fault : ℕ) → headOf s ≡ Read head at → fault ≡ edgesFrom s (head .edges) 0 at .fault → (fault ≡ 0 → ⊥) → jobOf s ≡ Fault fault
 unfolding jobOf
 edge-fault s head at fault h e z = rw (h, edges-are s head at h, ← e, ne-eqb fault 0 z)
+
+-- a job without a fault has as many edges as it says
+to-asked : (s : List ℕ) (x : HeadRead) {head : Head} → jobTo x (edgesAfter s x .fault) ≡ Asked head → length (edgesAfter s x .given) ≡ head .edges
+to-asked s (Read found at) {head} h = either (eqb (edgesFrom s (found .edges) 0 at .fault) 0) refl h
+  where
+    either : (t : Bool) → eqb (edgesFrom s (found .edges) 0 at .fault) 0 ≡ t → cond t (Asked found) (Fault (edgesFrom s (found .edges) 0 at .fault)) ≡ Asked head → length (edgesFrom s (found .edges) 0 at .given) ≡ head .edges
+    either true e k =
+        let same : found ≡ head = cc in
+        all-there s (found .edges) 0 at (eqb-true (edgesFrom s (found .edges) 0 at .fault) 0 e) ∙ ap (λ (x : Head). x .edges) same
+    either false e k = let z : _≡_ {A = ℕ} 0 1 = cc in let bad : ⊥ = omega arith in absurd bad
+to-asked s (Fault line) h = let z : _≡_ {A = ℕ} 0 1 = cc in let bad : ⊥ = omega arith in absurd bad
+
+pub edges-asked : (s : List ℕ) {head : Head} → jobOf s ≡ Asked head → length (edgesOf s .given) ≡ head .edges
+unfolding jobOf edgesOf
+edges-asked s h = to-asked s (headOf s) h
