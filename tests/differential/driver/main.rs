@@ -177,7 +177,17 @@ fn full(t: &mut Tally, count: u64, seed: u64) {
     }
 }
 
+/// Document 01's example, which the driver's own reader and writer must give too.
+const EXAMPLE: [&str; 2] = [
+    "measure=betweenness\nkind=undirected\nnodes=3\noption=0\nrounds=0\nfactor=0000000000000000\n\
+     tolerance=0000000000000000\nedges=2\nedge=0,1,3ff0000000000000\nedge=1,2,3ff0000000000000\n",
+    "measure=betweenness\nanswer=0\nnodes=3\nrounds=0\nsettled=none\nscore=0,0000000000000000\n\
+     score=1,3ff0000000000000\nscore=2,0000000000000000\n",
+];
+
 fn jobs(t: &mut Tally, count: u64, seed: u64) {
+    assert_eq!(job::answer_to(EXAMPLE[0].as_bytes()).unwrap().1, EXAMPLE[1]);
+    t.job_answer(EXAMPLE[0].as_bytes(), EXAMPLE[1].as_bytes());
     for i in 0..count {
         let mut dice = Dice(seed ^ i << 20);
         t.graph("jobs");
