@@ -1,4 +1,4 @@
-/* Replays a list of calls (tests/replay/calls.list, format in tests/differential/driver/list.rs) from standard input, and
+/* Replays a list of calls (`tests/lists calls`, format in tests/differential/driver/list.rs) from standard input, and
  * compares reports, results, the workspace's front and every element that must stay as it was.
  * Arguments: the calls to replay. */
 #include "meadowrut.h"
