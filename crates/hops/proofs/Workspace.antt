@@ -8,7 +8,7 @@ use native.Mathlib.Omega.{arith}
 use lib.ListN.{length, getD}
 use lib.Ieee.{Float}
 use Rattle.regions.specs.Region.{Frame, Filled}
-use Rattle.graph.specs.Edges.{Edge, edgesFrom, edgesOf, neighbours}
+use Rattle.graph.specs.Edges.{Edge, Graph, edgesFrom, edgesOf, neighbours}
 use Rattle.graph.specs.Pres.{Sound}
 use Rattle.rows.specs.Rows.{rowAt, rowsFront, Built}
 use Rattle.rows.proofs.Reading.{row-length, row-entry}
@@ -39,18 +39,18 @@ module _ {n : ℕ} (directed : Bool) {from to : List ℕ} {weight : List Float} 
       long : (v : ℕ) → v < n → length (neighbours directed (edgesOf from to weight) v) ≡ getD w′ (v + 1) 0 - getD w′ v 0
       long v hv = sym (ap length (B .rows v hv)) ∙ row-length n w′ v (B .fit .rises v hv) (B .fit .inside v hv)
 
-  -- the rows built in w, and then the distances and counts filled
-  module _ {D Q : ℕ} {w₀ w w′ c c′ : List ℕ} (sound : Sound n from to weight) (B : Built n directed from to weight w₀ w) (d : Filled w D n unreached w′) (z : Filled c 0 n 0 c′) (behind : rowsFront n (length from) ≤ D) (apart : D + n ≤ Q) (room : Q + n ≤ length w) (counts : n ≤ length c) where
-    pub space-ready : {s : ℕ} → s < n → Space (graphOf n directed (edgesOf from to weight)) s w′ c′ D Q
-    space-ready hs =
-        record {
-          valid = valid sound;
-          start = hs;
-          rows = rows-after w′ (rows-of B behind) (omega arith) (λ i l. d .frame .rest 0 i (λ p q. omega arith));
-          apart = apart;
-          room = omega (arith, d .frame .long);
-          counts = omega (arith, z .frame .long);
-        }
+-- the rows stand in w, and then the distances and counts are filled
+pub space-filled : {g : Graph} {s D Q : ℕ} {w w′ c c′ : List ℕ} → Valid g → s < g .nodes → RowsOf g w D → D + g .nodes ≤ Q → Q + g .nodes ≤ length w → g .nodes ≤ length c
+    → Filled w D (g .nodes) unreached w′ → Filled c 0 (g .nodes) 0 c′ → Space g s w′ c′ D Q
+space-filled {g} {s} {D} {Q} {w} {w′} ok hs R apart room counts d z =
+    record {
+      valid = ok;
+      start = hs;
+      rows = rows-after w′ R (omega (arith, R .inside s hs)) (λ i l. d .frame .rest 0 i (λ p q. omega arith));
+      apart = apart;
+      room = omega (arith, d .frame .long);
+      counts = omega (arith, z .frame .long);
+    }
 
-    pub fresh-ready : Fresh n w′ c′ D
-    fresh-ready = record { far = λ v hv. d .at 0 v hv; none = λ v hv. ap (λ (i : ℕ). getD c′ i 0) (sym (zero-add v)) ∙ z .at 0 v hv }
+pub fresh-filled : {n D : ℕ} {w w′ c c′ : List ℕ} → Filled w D n unreached w′ → Filled c 0 n 0 c′ → Fresh n w′ c′ D
+fresh-filled {n} {D} {w} {w′} {c} {c′} d z = record { far = λ v hv. d .at 0 v hv; none = λ v hv. ap (λ (i : ℕ). getD c′ i 0) (sym (zero-add v)) ∙ z .at 0 v hv }

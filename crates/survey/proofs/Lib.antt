@@ -1,0 +1,4 @@
+pub mod Searching
+pub mod Ending
+pub mod Unique
+pub mod Demand
