@@ -1,0 +1,43 @@
+-- Laplacian centrality (Qi et al.; graphina's other.rs): d*d + d + twice the neighbours' d. Definitions only.
+use mathlib.Core.Bool.{false}
+use mathlib.Core.List.{List, foldl}
+use Prim.Native.Nat.{ℕ}
+use lib.Dec.{ltb}
+use lib.IntN.{pos}
+use lib.ListN.{length}
+use lib.Ieee.{Float, binary64, ofBits, ofInt, add, mul}
+use Rattle.regions.specs.Region.{over, listOf}
+use Rattle.graph.specs.Answers.{Said, done}
+use Rattle.graph.specs.Edges.{neighbours}
+use Rattle.graph.specs.Given.{Given, edgesIn}
+use Rattle.graph.specs.Refusals.{plainly}
+use Rattle.graph.specs.Left.{Left, wiped, unlessRefused}
+
+-- 2.0
+abbrev pub two : Float
+two = ofBits binary64 0x4000_0000_0000_0000
+
+-- the number of entries of v, in its nearest double
+abbrev pub degreeOf : (ℕ → List ℕ) → ℕ → Float
+degreeOf rows v = ofInt binary64 (pos (length (rows v)))
+
+-- the sum before the neighbours
+abbrev pub ownPart : Float → Float
+ownPart d = add binary64 (mul binary64 d d) d
+
+-- the sum with one neighbour more
+abbrev pub withNeighbour : (ℕ → List ℕ) → Float → ℕ → Float
+withNeighbour rows sum u = add binary64 sum (mul binary64 two (degreeOf rows u))
+
+-- the score of v: its neighbours added in the order of their entries
+unfoldable pub laplacianScore : (ℕ → List ℕ) → ℕ → Float
+laplacianScore rows v = foldl (withNeighbour rows) (ownPart (degreeOf rows v)) (rows v)
+
+-- the n scores of a graph
+unfoldable pub laplacianScores : {R : Type 0} → Given R → List Float
+laplacianScores g = listOf (laplacianScore (neighbours (g .directed) (edgesIn g))) (g .nodes)
+
+-- what `laplacian` leaves
+unfoldable pub laplacianOutcome : Given (List Float) → Left (Said (Unit {0})) (List Float)
+laplacianOutcome g =
+    unlessRefused g (plainly g false false (ltb (length (g .results)) (g .nodes))) (wiped g (done tt) (over (laplacianScores g) (g .results)))

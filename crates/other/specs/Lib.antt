@@ -1,0 +1,3 @@
+pub mod Laplacian
+pub mod VoteRank
+pub mod Elections
