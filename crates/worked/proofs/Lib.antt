@@ -1,2 +1,3 @@
+pub mod Other
 pub mod Roots
 pub mod Table
