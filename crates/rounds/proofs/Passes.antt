@@ -8,15 +8,17 @@ use native.Mathlib.Numerals.{add-one}
 use native.Mathlib.Omega.{arith}
 use lib.ListN.{length, getD, set, drop, length-set}
 use lib.Seq.{drop-length, getD-set-same, getD-set-other}
-use lib.Ieee.{Float, nan}
-use Rattle.regions.specs.Region.{listOf, part, Front}
+use lib.Ieee.{Float, nan, binary64, add, sub}
+use Rattle.regions.specs.Region.{zeroF, listOf, Front}
 use Rattle.regions.proofs.Cases.{same-or-not}
 use Rattle.regions.proofs.Parts.{part-is}
 use Rattle.regions.proofs.Fronts.{front-none, front-set, front-then}
 use Rattle.graph.specs.Edges.{Edge, edge, edgesOf}
 use Rattle.graph.specs.Pres.{Sized}
 use Rattle.graph.proofs.Edges.{edges-long, edges-from}
-use Rattle.rounds.specs.Vectors.{entry, currentIn, nextIn, Vectors}
+use Rattle.rounds.specs.Rounds.{after}
+use Rattle.rounds.specs.Vectors.{entry, squared, withChange, currentIn, nextIn, Vectors}
+use Rattle.rounds.proofs.Rounds.{after-more}
 use Rattle.rounds.proofs.Vectors.{current-at, next-at}
 
 -- ---- a loop over the edges: `grown x y e` is what the edge e makes of the next vector y, x being the current one
@@ -110,3 +112,11 @@ module _ (n : ℕ) (fx fy : ℕ → Float) (w : List Float) where
         current = part-is nan w′ 0 n fx (omega (arith, r .front .long)) (λ k l. r .current k (omega arith));
         next = part-is nan w′ n n fy (omega (arith, r .front .long)) (λ k l. r .next k (omega arith));
       }
+
+-- the sum with the change of one entry more: a is the entry i of y, and b that of x
+pub change-more : (x y : List Float) (i : ℕ) {sum a b : Float} → a ≡ entry y i → b ≡ entry x i → sum ≡ after (withChange x y) i zeroF
+    → add binary64 sum (squared (sub binary64 a b)) ≡ after (withChange x y) (i + 1) zeroF
+change-more x y i {sum} {a} {b} ea eb es =
+    ap (λ (v : Float). add binary64 sum (squared (sub binary64 v b))) ea
+    ∙ ap (λ (v : Float). add binary64 sum (squared (sub binary64 (entry y i) v))) eb
+    ∙ after-more (withChange x y) i zeroF sum es

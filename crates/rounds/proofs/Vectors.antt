@@ -13,7 +13,7 @@ use lib.Seq.{ext-getD, getD-set-same, getD-set-other}
 use lib.Ieee.{Float, nan, binary64, add, mul}
 use Rattle.regions.specs.Region.{part, listOf, Front, Frame}
 use Rattle.regions.proofs.Cases.{same-or-not}
-use Rattle.regions.proofs.Parts.{part-long, part-at, part-is}
+use Rattle.regions.proofs.Parts.{part-long, part-at, list-of-places}
 use Rattle.regions.proofs.Fronts.{front-none, front-set, front-then}
 use Rattle.regions.proofs.Frames.{frame-none, frame-set, frame-part}
 use Rattle.rounds.specs.Vectors.{entry, gains, spreads, currentIn, nextIn, Vectors, SpreadPre}
@@ -95,3 +95,7 @@ module _ (n : ℕ) (directed : Bool) (factor : Float) (row col : ℕ) (w : List 
       (ap (λ (x : List Float). gains factor x (nextIn n u) col row) (there .current)
       ∙ ap (λ (y : List Float). gains factor (currentIn n w) y col row) (there .next))
       b))
+
+-- a vector in the workspace is the list of its entries
+pub next-list : (n : ℕ) (w : List Float) → n + n ≤ length w → listOf (entry (nextIn n w)) n ≡ nextIn n w
+next-list n w l = ap (listOf (entry (nextIn n w))) (sym (part-long w n n l)) ∙ list-of-places nan (nextIn n w)

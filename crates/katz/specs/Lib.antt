@@ -1,0 +1,2 @@
+pub mod Katz
+pub mod Steps
