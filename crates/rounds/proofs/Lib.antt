@@ -5,3 +5,4 @@ pub mod Vectors
 pub mod Passes
 pub mod Finite
 pub mod Ending
+pub mod Reader
