@@ -29,7 +29,8 @@ use Rattle.rounds.proofs.Tests.{iterative-ready, iterative-fits, length-right}
 use Rattle.rounds.proofs.Ending.{vectors-room, write-pre, settled-ends}
 use Rattle.rounds.specs.Vectors.{squaredChange, settles, currentIn, nextIn, Vectors}
 use Rattle.katz.specs.Katz.{betaOf, katzEdge, katzNext, katzStep, katzRounds, katzOwn, katzTests, katzOutcome}
-use Rattle.katz.specs.Steps.{graphOf, RunPre, RoundDone, RoundsDone}
+use Rattle.rounds.specs.Steps.{graphOf, RoundDone, RoundsDone}
+use Rattle.katz.specs.Steps.{RunPre}
 
 module _ (n : ℕ) (directed : Bool) (from to : List ℕ) (weight : List Float) where
   -- the edges made w1 of w, and `advance` w2 of that

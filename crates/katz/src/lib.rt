@@ -17,7 +17,8 @@ ghost use Rattle.regions.specs.Region.{zeroF, listOf};
 ghost use Rattle.rounds.specs.Rounds.{outcomeFrom};
 ghost use Rattle.rounds.specs.Vectors.{currentIn, nextIn, squaredChange, Vectors};
 ghost use Rattle.katz.specs.Katz.{betaAt, betaOf, katzEdge, katzStep, katzRounds, katzOutcome};
-ghost use Rattle.katz.specs.Steps.{BetaPre, SpreadsPre, RunPre, RoundPre, graphOf, RoundDone, RoundsDone};
+ghost use Rattle.rounds.specs.Steps.{graphOf, SpreadsPre, RoundDone, RoundsDone};
+ghost use Rattle.katz.specs.Steps.{BetaPre, RunPre, RoundPre};
 
 // The settings' damping is alpha; beta is 1 for each node unless `given`.
 // Refuses SIZE, NODE, NUMBER, LENGTH, ROOM, and UNSETTLED when all rounds are used and none met the stop rule, in this order.
@@ -110,7 +111,18 @@ fn run_on(
     let limit = settings.limit;
     let mut k = 0u64;
     while k < limit {
-        let met = round(nodes, directed, from, to, weight, alpha, tolerance, given, beta, wf);
+        let met = round(
+            nodes,
+            directed,
+            from,
+            to,
+            weight,
+            alpha,
+            tolerance,
+            given,
+            beta,
+            wf,
+        );
         k += 1;
         if met {
             return Rounds {

@@ -3,3 +3,4 @@ pub mod Says
 pub mod Tests
 pub mod Ending
 pub mod Vectors
+pub mod Steps

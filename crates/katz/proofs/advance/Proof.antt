@@ -17,7 +17,7 @@ use Rattle.katz.proofs.advance.Statement.{statement}
 use Rattle.katz.proofs.advance.Tie as tie
 
 abbrev Inv-loop : tie.InvT-loop
-Inv-loop nodes given beta wf₀ sum₀ i₀ wf sum i = 
+Inv-loop nodes given beta wf₀ sum₀ i₀ wf sum i =
     (i ≤ nodes)
     × Rewritten nodes (entry (nextIn nodes wf₀)) (betaAt given beta) wf₀ i wf
     × (sum ≡ after (withChange (currentIn nodes wf₀) (nextIn nodes wf₀)) i zeroF)
@@ -69,27 +69,29 @@ loop-less : tie.Need-loop-less Inv-loop μ-loop
 loop-less c = search needs
 
 loop-again : tie.Need-loop-again Inv-loop μ-loop
-loop-again c = 
+loop-again c =
     let at = c .before .before .before .before in
     let s = at .before .before .before in
     let l = c .before .before .before .loop-test .taken in
     let r = at .loop .inv .1 in
-    let i = at .loop .i in
-    (search needs,
-    rewritten-more _ _ _ _ (s .pre .room) l (r .next-left i (le-refl i) l) (c .begins .ensures) r,
-    change-more (currentIn (s .args .nodes) (s .args .wf .now)) (nextIn (s .args .nodes) (s .args .wf .now)) i (r .next-left i (le-refl i) l) (r .current-left i (le-refl i) l) (at .loop .inv .2))
+    let i = at .loop .i in (
+      search needs,
+      rewritten-more _ _ _ _ (s .pre .room) l (r .next-left i (le-refl i) l) (c .begins .ensures) r,
+      change-more (currentIn (s .args .nodes) (s .args .wf .now)) (nextIn (s .args .nodes) (s .args .wf .now)) i (r .next-left i (le-refl i) l) (r .current-left i (le-refl i) l) (at .loop .inv .2),
+    )
 
 same-length : tie.Need-same-length Inv-loop μ-loop
 same-length c = search needs
 
 returns : tie.Need-returns Inv-loop μ-loop
 unfolding squaredChange
-returns c = 
+returns c =
     let at = c .before in
     let s = at .before .before .before in
-    let e : at .loop .i ≡ s .args .nodes = omega arith in
-    (at .loop .inv .2 ∙ ap (λ k. after (withChange (currentIn (s .args .nodes) (s .args .wf .now)) (nextIn (s .args .nodes) (s .args .wf .now))) k zeroF) e,
-    vectors-are (next-list (s .args .nodes) (s .args .wf .now) (s .pre .room)) refl (rewritten-done _ _ _ _ (s .pre .room) e (at .loop .inv .1)))
+    let e : at .loop .i ≡ s .args .nodes = omega arith in (
+      at .loop .inv .2 ∙ ap (λ k. after (withChange (currentIn (s .args .nodes) (s .args .wf .now)) (nextIn (s .args .nodes) (s .args .wf .now))) k zeroF) e,
+      vectors-are (next-list (s .args .nodes) (s .args .wf .now) (s .pre .room)) refl (rewritten-done _ _ _ _ (s .pre .room) e (at .loop .inv .1)),
+    )
 
 pub advance-spec : {M : Type 1} → statement M
 advance-spec =

@@ -47,7 +47,7 @@ loop-less c = search needs
 
 loop-again : tie.Need-loop-again Inv-loop μ-loop
 unfolding ofBits
-loop-again c = 
+loop-again c =
     let at = c .before .before in
     (search needs, rewritten-more _ _ _ _ (at .before .before .before .pre .room) (c .before .loop-test .taken) refl (c .begins .ensures) (at .loop .inv .1))
 
@@ -55,7 +55,7 @@ same-length : tie.Need-same-length Inv-loop μ-loop
 same-length c = search needs
 
 returns : tie.Need-returns Inv-loop μ-loop
-returns c = 
+returns c =
     let at = c .before in
     rewritten-done _ _ _ _ (at .before .before .before .pre .room) (omega arith) (at .loop .inv .1)
 

@@ -42,7 +42,7 @@ refuses-requires c κs = search needs
 
 returns : tie.Need-returns
 unfolding katzOutcome
-returns c = 
+returns c =
     let a = c .before .before .before .before .before .before .before .before .before .before .before .before .before .args in
     let g = here (c .before .before .before .before .before .before .before .before .before .before .before .before .before) in
     refused g (katzTests (a .settings) (a .given) (a .beta .now) g) _
@@ -71,7 +71,7 @@ same-length-4 : tie.Need-same-length-4
 same-length-4 c = search needs
 
 returns-2 : tie.Need-returns-2
-returns-2 c = 
+returns-2 c =
     let a = c .before .before .before .before .before .before .before .before .before .before .before .before .before .before .before .before .before .before .before .before .before .before .before .before .before .before .before .before .before .before .before .args in
     ended (a .settings) (a .given) (a .beta .now) (here (c .before .before .before .before .before .before .before .before .before .before .before .before .before .before .before .before .before .before .before .before .before .before .before .before .before .before .before .before .before .before .before)) (ok (c .before .before .before .before .before .before .before .before .before .before .before .before .before .before .before .before .before .before)) (c .before .before .before .before .before .before .before .before .before .before .before .before .before .before .before .before .run .ensures) (c .before .before .before .before .before .before .before .before .before .before .before .before .before .usual-fronts .ensures) (c .before .before .before .before .before .before .before .before .write-settled .ensures)
 

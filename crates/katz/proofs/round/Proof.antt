@@ -18,7 +18,7 @@ same-length : tie.Need-same-length
 same-length c = search needs
 
 returns : tie.Need-returns
-returns c = 
+returns c =
     let s = c .before .before .before .before .before .before .before .before .before .before .before .before .before .before in
     let a = s .args in
     round-done (a .nodes) (a .directed) (a .from .now) (a .to .now) (a .weight .now) (a .alpha) (a .tolerance) (s .pre .begun)

@@ -12,12 +12,12 @@ same-length : tie.Need-same-length
 same-length c = search needs
 
 returns : tie.Need-returns
-returns c = 
+returns c =
     let a = c .before .before .before .before .before .before .before .before .before .before .args in
     run-none (a .nodes) (a .directed) (a .from .now) (a .to .now) (a .weight .now) (a .settings) (a .given) (a .beta .now) (c .before .before .before .begin .ensures) (c .if1 .taken)
 
 run-on-requires : tie.Need-run-on-requires
-run-on-requires c κs = 
+run-on-requires c κs =
     let s = c .before .before .before .before .before .before .before .before .before .before .before in
     let v = c .before .before .before .before .begin .ensures in
     record {
@@ -32,7 +32,7 @@ same-length-2 : tie.Need-same-length-2
 same-length-2 c = search needs
 
 returns-2 : tie.Need-returns-2
-returns-2 c = 
+returns-2 c =
     let a = c .before .before .before .before .before .before .before .before .before .before .before .before .before .before .args in
     run-some (a .nodes) (a .directed) (a .from .now) (a .to .now) (a .weight .now) (a .settings) (a .given) (a .beta .now) (c .before .before .before .before .before .before .before .begin .ensures) (c .before .before .before .before .if1 .left) (c .before .before .run-on .ensures)
 

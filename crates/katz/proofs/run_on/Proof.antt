@@ -9,13 +9,13 @@ use Rattle.rounds.specs.Rounds.{outcomeFrom}
 use Rattle.rounds.specs.Vectors.{currentIn, nextIn}
 use Rattle.rounds.proofs.Rounds.{rounds-more, rounds-met, rounds-over}
 use Rattle.katz.specs.Katz.{betaOf, katzStep}
-use Rattle.katz.specs.Steps.{graphOf}
+use Rattle.rounds.specs.Steps.{graphOf}
 use borrow.Author.Needs.{needs}
 use Rattle.katz.proofs.run_on.Statement.{statement}
 use Rattle.katz.proofs.run_on.Tie as tie
 
 abbrev Inv-loop : tie.InvT-loop
-Inv-loop nodes directed from to weight settings given beta wf₀ alpha tolerance limit k₀ wf k = 
+Inv-loop nodes directed from to weight settings given beta wf₀ alpha tolerance limit k₀ wf k =
     let step = katzStep (graphOf nodes directed from to weight) alpha tolerance (betaOf given beta nodes) in
     (k ≤ limit)
     × Front wf₀ (nodes + nodes) wf
@@ -29,7 +29,7 @@ loop-holds : tie.Need-loop-holds Inv-loop μ-loop
 loop-holds c = (search needs, front-none _ _, c .before .before .before .before .before .pre .begun, rw sub-zero)
 
 round-requires : tie.Need-round-requires Inv-loop μ-loop
-round-requires c κs = 
+round-requires c κs =
     let at = c .before .before in
     let s = c .before .before .before .before .before .before .before .before in
     record {
@@ -47,7 +47,7 @@ same-length : tie.Need-same-length Inv-loop μ-loop
 same-length c = search needs
 
 returns : tie.Need-returns Inv-loop μ-loop
-returns c = 
+returns c =
     let at = c .before .before .before .before .before .before in
     let d = c .before .before .before .round .ensures in
     record {
@@ -60,17 +60,20 @@ loop-less : tie.Need-loop-less Inv-loop μ-loop
 loop-less c = search needs
 
 loop-again : tie.Need-loop-again Inv-loop μ-loop
-loop-again c = 
+loop-again c =
     let at = c .before .before .before .before .before .before in
-    let d = c .before .before .before .round .ensures in
-    (search needs, front-then (at .loop .inv .1) (d .front), d .begun,
-    rounds-more _ _ _ (c .before .before .before .before .before .loop-test .taken) (d .stepped) (c .if1 .left) (at .loop .inv .3))
+    let d = c .before .before .before .round .ensures in (
+      search needs,
+      front-then (at .loop .inv .1) (d .front),
+      d .begun,
+      rounds-more _ _ _ (c .before .before .before .before .before .loop-test .taken) (d .stepped) (c .if1 .left) (at .loop .inv .3),
+    )
 
 same-length-2 : tie.Need-same-length-2 Inv-loop μ-loop
 same-length-2 c = search needs
 
 returns-2 : tie.Need-returns-2 Inv-loop μ-loop
-returns-2 c = 
+returns-2 c =
     let at = c .before in
     record {
       front = at .loop .inv .1;

@@ -44,7 +44,7 @@ shared-slice-read-spread : tie.Need-shared-slice-read-spread Inv-loop μ-loop
 shared-slice-read-spread c = omega (arith, c .before .before .before .before .before .before .before .before .before .pre .sound .sized .weights)
 
 spread-requires : tie.Need-spread-requires Inv-loop μ-loop
-spread-requires c κs = 
+spread-requires c κs =
     let s = c .before .before .before .before .before .before .before .before .before .before in
     let at = c .before .before .before .before .before in
     let l = c .before .before .before .before .loop-test .taken in
@@ -61,7 +61,7 @@ loop-less : tie.Need-loop-less Inv-loop μ-loop
 loop-less c = search needs
 
 loop-again : tie.Need-loop-again Inv-loop μ-loop
-loop-again c = 
+loop-again c =
     let at = c .before .before .before .before .before .before .before .before in
     let s = c .before .before .before .before .before .before .before .before .before .before .before .before .before in
     (search needs, growing-more _ _ _ _ _ _ (s .pre .sound .sized) (c .before .before .before .before .before .before .before .loop-test .taken) (at .loop .inv .1) (c .before .before .spread .ensures))
@@ -70,7 +70,7 @@ same-length : tie.Need-same-length Inv-loop μ-loop
 same-length c = search needs
 
 returns : tie.Need-returns Inv-loop μ-loop
-returns c = 
+returns c =
     let at = c .before in
     growing-done _ _ _ _ _ _ (at .before .before .before .before .before .pre .sound .sized) (omega arith) (at .loop .inv .1)
 
