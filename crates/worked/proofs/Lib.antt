@@ -1,3 +1,4 @@
 pub mod Other
 pub mod Roots
+pub mod Survey
 pub mod Table

@@ -1,11 +1,21 @@
 -- Document 01's worked cases as one table: a row for each case, proved in the file of its layer. Assumes nothing.
 use Rattle.worked.proofs.Other.{P4-laplacian, p4-laplacian, P5, p5}
 use Rattle.worked.proofs.Roots.{P8, p8}
+use Rattle.worked.proofs.Survey.{P1-survey, p1-survey, P3-survey, p3-survey}
 
 pub record Table : Type 0 where
+  pub survey-square : P1-survey
+  pub survey-doubled : P3-survey
   pub laplacian-path : P4-laplacian
   pub self-loop : P5
   pub roots : P8
 
 pub table : Table
-table = record { laplacian-path = p4-laplacian; self-loop = p5; roots = p8 }
+table =
+    record {
+      survey-square = p1-survey;
+      survey-doubled = p3-survey;
+      laplacian-path = p4-laplacian;
+      self-loop = p5;
+      roots = p8;
+    }
