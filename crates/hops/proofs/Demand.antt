@@ -1,18 +1,18 @@
 -- What is demanded of `dist` and `count`, over the definitions of `Hops`. Assumes nothing.
-use mathlib.Core.Path.{_≡_, refl, sym, ap, ap₂, _∙_, subst}
+use mathlib.Core.Path.{_≡_, refl, sym, _∙_, subst}
 use mathlib.Core.Logic.{_≢_, _⊎_, inl, inr, _↔_}
-use mathlib.Core.Bool.{Bool, true, false, not, _&&_}
-use mathlib.Core.List.{List, [], _∷_, _++_, List·Memᴰ, List·Memᴰ·head, append-assoc}
-use Prim.Native.Nat.{ℕ, zero, suc, _+_, _-_, _*_, _≤_, _<_}
+use mathlib.Core.Bool.{_&&_}
+use mathlib.Core.List.{List, [], _∷_, List·Memᴰ, List·Memᴰ·head}
+use Prim.Native.Nat.{ℕ, suc, _-_, _*_, _≤_, _<_}
 use native.Mathlib.Nat.{eq-zero-or-pos}
 use native.Mathlib.Omega.{arith}
 use lib.Dec.{eqb}
 use lib.ListN.{length}
-use Rattle.graph.specs.Edges.{Edge, Graph, entries}
+use Rattle.graph.specs.Edges.{Graph, entries}
 use Rattle.hops.specs.Sum.{sumOver, below, onlyIf}
 use Rattle.hops.specs.Hops.{Valid, unreached, Hops, walks, dist, count, turned, routes, Distinct}
 use Rattle.hops.proofs.Routes.{routes-length, routes-hops, hops-routes, routes-distinct}
-use Rattle.hops.proofs.Dist.{Fewest, Never, dist-cases, dist-fewest, fewest-dist, count-reached, count-unreached, unreached-never, level, sum-on-way, dist-turned, count-turned}
+use Rattle.hops.proofs.Dist.{Fewest, Never, dist-cases, dist-fewest, fewest-dist, count-reached, count-unreached, level, sum-on-way, dist-turned, count-turned}
 
 -- a hop sequence there is shows in the number, and a number that is not 0 shows a hop sequence
 hops-walks : (g : Graph) (a b : ℕ) (p : List ℕ) → Hops g a p b → 0 < walks g (length p) a b

@@ -3,16 +3,16 @@
 use mathlib.Core.Path.{_≡_, refl, sym, ap, ap₂, _∙_, subst, fun-ext}
 use mathlib.Core.Logic.{_≢_, _⊎_, inl, inr, _↔_}
 use mathlib.Core.Bool.{Bool, true, false, not, _&&_}
-use mathlib.Core.List.{List, [], _∷_, _++_, map, List·Memᴰ, List·Memᴰ·head, List·Memᴰ·tail}
+use mathlib.Core.List.{List·Memᴰ}
 use Prim.Native.Nat.{ℕ, zero, suc, _+_, _-_, _*_, _≤_, _<_}
-use native.Mathlib.Nat.{add-zero, zero-add, add-comm, suc-add, mul-zero, zero-mul, mul-one, one-mul, mul-comm, mul-assoc, mul-pos, eq-zero-or-pos, add-sub-of-le}
+use native.Mathlib.Nat.{zero-mul, mul-one, mul-comm, eq-zero-or-pos}
 use native.Mathlib.Decide.{decLe}
 use native.Mathlib.Omega.{arith}
-use lib.Dec.{T, eqb}
-use Rattle.graph.specs.Edges.{Edge, Graph, entries}
+use lib.Dec.{eqb}
+use Rattle.graph.specs.Edges.{Graph, entries}
 use Rattle.hops.specs.Sum.{sumOver, below, same, onlyIf, times}
 use Rattle.hops.specs.Hops.{EndsIn, Valid, unreached, walks, seek, dist, count, turned}
-use Rattle.hops.proofs.Sums.{eq-or-ne, eqb-yes, eqb-no, same-yes, same-no, same-comm, same-pos, sum-cong, below-cong, sum-mul, sum-swap, sum-same, none-below, below-pos, below-some, below-le, below-ge, mem-times, times-mem}
+use Rattle.hops.proofs.Sums.{eq-or-ne, eqb-yes, eqb-no, same-yes, sum-cong, below-cong, sum-swap, sum-same, none-below, below-pos, below-some, below-le, below-ge, mem-times, times-mem}
 use Rattle.hops.proofs.Walks.{walks-split, walks-via, walks-turn, turned-inside}
 
 -- ---- the first place at which f is not 0

@@ -1,19 +1,19 @@
 -- Labels d and c of the nodes that agree from entry to entry are `dist` and `count`: what a breadth-first search has to come to. Assumes nothing.
-use mathlib.Core.Path.{_≡_, refl, sym, ap, ap₂, _∙_, subst}
-use mathlib.Core.Logic.{_≢_, _⊎_, inl, inr, _↔_}
-use mathlib.Core.Bool.{Bool, true, false}
-use mathlib.Core.List.{List, [], _∷_, List·Memᴰ}
+use mathlib.Core.Path.{_≡_, refl, sym, ap, _∙_, subst}
+use mathlib.Core.Logic.{_≢_, _⊎_, inl, inr}
+use mathlib.Core.Bool.{Bool}
+use mathlib.Core.List.{List·Memᴰ}
 use Prim.Native.Nat.{ℕ, zero, suc, _+_, _-_, _*_, _≤_, _<_}
 use native.Mathlib.Nat.{eq-zero-or-pos}
 use native.Mathlib.Omega.{arith}
-use lib.Dec.{T, eqb}
+use lib.Dec.{eqb}
 use Rattle.graph.specs.Edges.{Graph, entries}
 use Rattle.hops.specs.Sum.{sumOver, below, same, onlyIf, times}
-use Rattle.hops.specs.Hops.{EndsIn, Valid, unreached, walks, dist, count}
+use Rattle.hops.specs.Hops.{Valid, unreached, walks, dist, count}
 use Rattle.hops.specs.Search.{share, Comes}
 use Rattle.hops.proofs.Sums.{eq-or-ne, eqb-yes, eqb-no, same-yes, same-pos, below-cong}
 use Rattle.hops.proofs.Walks.{walks-via}
-use Rattle.hops.proofs.Dist.{Fewest, Never, on-way, fewest-lt, fewest-dist, fewest-count, count-unreached, unreached-never, entry-walk, walk-entry, level-count}
+use Rattle.hops.proofs.Dist.{Fewest, Never, on-way, fewest-dist, fewest-count, count-unreached, unreached-never, entry-walk, walk-entry, level-count}
 
 -- the labels that a search from s is to leave: no word of hop sequences
 pub record Labels (g : Graph) (s : ℕ) (d c : ℕ → ℕ) : Type 0 where

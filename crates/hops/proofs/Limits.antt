@@ -1,12 +1,12 @@
 -- `exceeds` says just that some node has more fewest hop sequences from s than the limit. Assumes nothing.
-use mathlib.Core.Path.{_≡_, refl, sym, ap, ap₂, _∙_}
+use mathlib.Core.Path.{_≡_, refl, ap, ap₂, _∙_}
 use mathlib.Core.Logic.{_⊎_, inl, inr, _↔_}
 use mathlib.Core.Bool.{Bool, true, false, _||_, false≢true}
 use Prim.Native.Nat.{ℕ, zero, suc, _≤_, _<_}
 use native.Mathlib.Omega.{arith}
-use borrow.Author.Tests.{ltb-true, ltb-false, lt-ltb, le-ltb}
+use borrow.Author.Tests.{ltb-true, lt-ltb, le-ltb}
 use lib.Dec.{ltb}
-use Rattle.regions.proofs.Cases.{bool-cases, same-or-not}
+use Rattle.regions.proofs.Cases.{same-or-not}
 use Rattle.graph.specs.Edges.{Graph}
 use Rattle.hops.specs.Hops.{count, exceedsBelow, exceeds}
 use Rattle.hops.specs.Search.{TooMany}

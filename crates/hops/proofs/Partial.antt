@@ -1,21 +1,21 @@
 -- Within a search: the labels given so far are the fewest hops, and the ways counted so far are no more than the number of fewest hop sequences.
 -- Assumes nothing.
-use mathlib.Core.Path.{_≡_, refl, sym, ap, ap₂, _∙_, subst}
+use mathlib.Core.Path.{_≡_, refl, sym, ap, _∙_, subst}
 use mathlib.Core.Logic.{_≢_, _⊎_, inl, inr}
 use mathlib.Core.Bool.{Bool}
-use mathlib.Core.List.{List, [], _∷_, _++_, List·Memᴰ, List·Memᴰ·cases-cons, List·Memᴰ·append-cases, Memᴰ·append-left, Memᴰ·append-right, List·Memᴰ·head, List·Memᴰ·tail, List·Memᴰ·eq-of-singleton}
+use mathlib.Core.List.{List, [], _∷_, _++_, List·Memᴰ, List·Memᴰ·cases-cons, List·Memᴰ·append-cases, Memᴰ·append-left, Memᴰ·append-right, List·Memᴰ·head, List·Memᴰ·eq-of-singleton}
 use Prim.Native.Nat.{ℕ, zero, suc, _+_, _-_, _*_, _≤_, _<_}
 use native.Mathlib.Nat.{eq-zero-or-pos, zero-mul, one-mul, mul-le-mul-right}
 use native.Mathlib.Omega.{arith}
 use lib.Dec.{eqb}
 use Rattle.graph.specs.Edges.{Graph, entries}
-use Rattle.hops.specs.Sum.{sumOver, below, onlyIf, same, times}
+use Rattle.hops.specs.Sum.{sumOver, onlyIf, same, times}
 use Rattle.hops.specs.Hops.{Valid, unreached, walks, dist, count}
 use Rattle.hops.specs.Search.{share, has, Mid}
-use Rattle.hops.proofs.Sums.{eq-or-ne, eqb-yes, eqb-no, same-yes, same-no, same-pos, sum-append, sum-zero, sum-times, sum-cong-mem, below-mono}
+use Rattle.hops.proofs.Sums.{eq-or-ne, eqb-yes, same-no, same-pos, sum-append, sum-zero, sum-times, sum-cong-mem, below-mono}
 use Rattle.hops.proofs.Dist.{Fewest, on-way, fewest-dist, fewest-count, walk-entry, level-count}
 use Rattle.hops.proofs.Labels.{reach}
-use Rattle.hops.proofs.Steps.{share-yes, share-no, has-yes, has-no, has-le, queued, all-near}
+use Rattle.hops.proofs.Steps.{share-yes, share-no, has-no, has-le, queued, all-near}
 
 module _ {g : Graph} (ok : Valid g) {s : ℕ} (hs : s < g .nodes) {d c : ℕ → ℕ} {done : List ℕ} {u : ℕ} {seen rest : List ℕ} (M : Mid g s d c done u seen rest) where
   -- a node with a label below that of u is done

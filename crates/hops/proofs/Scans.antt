@@ -9,7 +9,7 @@ use Rattle.graph.specs.Edges.{Graph, entries}
 use Rattle.hops.specs.declared.Step.{Step}
 use Rattle.hops.specs.declared.Step.the-variants.{First, Again, Other, Paths}
 use Rattle.hops.specs.Hops.{unreached}
-use Rattle.hops.specs.Search.{Space, Kept, Search, TooMany, Visiting, TouchPre, Touched, grown, tooMany}
+use Rattle.hops.specs.Search.{Kept, Search, TooMany, Visiting, TouchPre, Touched, grown, tooMany}
 use Rattle.hops.proofs.Search.{front, kept-none, kept-then, before-tail, node-lt, node-near, tail-most, touch-pre, step, paths, step-kept, node-kept}
 
 -- the rows are as they were
@@ -44,9 +44,6 @@ scan-none {g} {limit} {s} {D} {Q} {head} {tail} {u} {w} {c} S =
     }
 
 module _ {g : Graph} {limit s D Q head : ℕ} {w₀ c₀ : List ℕ} {u further ways : ℕ} {w c : List ℕ} {p place : ℕ} (N : Scan g limit s D Q head w₀ c₀ u further ways w c p place) where
-  H : Space g s w c D Q
-  H = N .search .space
-
   row-end : getD w₀ (u + 1) 0 ≡ getD w u 0 + length (entries g u)
   row-end =
       sym (kept-low (N .kept) (omega (arith, N .search .space .apart)) (u + 1) (omega (arith, front (N .search .space), node-lt (N .search))))

@@ -4,7 +4,7 @@ use mathlib.Core.Logic.{_≢_, _⊎_, inl, inr}
 use mathlib.Core.Bool.{true, false, false≢true}
 use mathlib.Core.List.{List, [], _∷_, _++_, append-assoc, List·Memᴰ, List·Memᴰ·head, List·Memᴰ·tail}
 use Prim.Native.Nat.{ℕ, zero, suc, _+_, _-_, _≤_, _<_}
-use native.Mathlib.Nat.{add-zero, eq-zero-or-pos}
+use native.Mathlib.Nat.{add-zero}
 use native.Mathlib.Numerals.{add-one}
 use native.Mathlib.Omega.{arith}
 use lib.ListN.{length, getD, set, take, length-append, length-set}
@@ -17,9 +17,9 @@ use Rattle.graph.specs.Edges.{Graph, entries}
 use Rattle.hops.specs.declared.Step.{Step}
 use Rattle.hops.specs.declared.Step.the-variants.{First, Again, Other, Paths}
 use Rattle.hops.specs.Sum.{sumOver, same, times}
-use Rattle.hops.specs.Hops.{Valid, unreached, dist, count}
-use Rattle.hops.specs.Search.{Mid, cells, places, RowsOf, Space, Fresh, BeginPre, Begun, Kept, Search, Found, TooMany, TouchPre, FoundFirst, FoundAgain, PassedOver, Exceeded, Touched, grown, tooMany}
-use Rattle.hops.proofs.Sums.{eq-or-ne, not-long, sum-append, times-mem}
+use Rattle.hops.specs.Hops.{unreached, dist, count}
+use Rattle.hops.specs.Search.{Mid, cells, places, RowsOf, Space, Fresh, BeginPre, Begun, Kept, Search, Found, TooMany, TouchPre, FoundFirst, FoundAgain, PassedOver, Touched, grown, tooMany}
+use Rattle.hops.proofs.Sums.{eq-or-ne, not-long}
 use Rattle.hops.proofs.Walks.{entry-lt}
 use Rattle.hops.proofs.Labels.{Labels, labels-dist, labels-count}
 use Rattle.hops.proofs.Steps.{Put, begin, next, room, skip, add, new, u-in, labelled, queued, has-le}

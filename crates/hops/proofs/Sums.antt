@@ -4,7 +4,7 @@ use mathlib.Core.Logic.{_≢_, _⊎_, inl, inr}
 use mathlib.Core.Bool.{Bool, true, false}
 use mathlib.Core.List.{List, [], _∷_, _++_, List·Memᴰ, List·Memᴰ·head, List·Memᴰ·tail}
 use Prim.Native.Nat.{ℕ, zero, suc, _+_, _-_, _*_, _≤_, _<_}
-use native.Mathlib.Nat.{add-zero, zero-add, add-assoc, add-comm, add-left-comm, mul-zero, zero-mul, mul-one, one-mul, mul-add, add-mul, mul-assoc, mul-comm, mul-left-comm, mul-pos, eq-zero-or-pos}
+use native.Mathlib.Nat.{add-zero, zero-add, add-assoc, zero-mul, mul-one, one-mul, add-mul, eq-zero-or-pos}
 use native.Mathlib.Decide.{ℕ-discrete}
 use native.Mathlib.Omega.{arith}
 use lib.Dec.{T, eqb, eqb→eq, eqb-refl}

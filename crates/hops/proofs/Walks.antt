@@ -3,14 +3,14 @@ use mathlib.Core.Path.{_≡_, refl, sym, ap, ap₂, _∙_, subst}
 use mathlib.Core.Logic.{_≢_, _⊎_, inl, inr}
 use mathlib.Core.Bool.{Bool, true, false, not, _&&_, cond}
 use mathlib.Core.List.{List, [], _∷_, _++_, map, List·Memᴰ, List·Memᴰ·cases-cons}
-use Prim.Native.Nat.{ℕ, zero, suc, _+_, _-_, _*_, _≤_, _<_}
-use native.Mathlib.Nat.{add-zero, zero-add, add-comm, suc-add, mul-zero, zero-mul, mul-one, one-mul, mul-comm, mul-assoc, mul-pos}
+use Prim.Native.Nat.{ℕ, zero, suc, _+_, _-_, _*_, _<_}
+use native.Mathlib.Nat.{add-zero, zero-add, suc-add, mul-zero, zero-mul, one-mul, mul-comm, mul-pos}
 use native.Mathlib.Omega.{arith}
-use lib.Dec.{T, eqb}
+use lib.Dec.{eqb}
 use Rattle.graph.specs.Edges.{Edge, Graph, only, newestFirst, givesOut, givesIn, neighbours, entries}
 use Rattle.hops.specs.Sum.{sumOver, below, same, onlyIf}
-use Rattle.hops.specs.Hops.{EndsIn, Valid, walks, turn, turned}
-use Rattle.hops.proofs.Sums.{eq-or-ne, eqb-yes, eqb-no, same-yes, same-no, same-comm, sum-cong, below-cong, sum-append, sum-mul, sum-swap, sum-same, below-pos, below-some}
+use Rattle.hops.specs.Hops.{EndsIn, walks, turn, turned}
+use Rattle.hops.proofs.Sums.{eq-or-ne, eqb-yes, eqb-no, same-no, same-comm, sum-cong, below-cong, sum-append, sum-mul, sum-swap, sum-same, below-pos}
 
 -- the entries of v from edges that leave it, and from those that lead to it from another node
 abbrev outOf : List Edge → ℕ → List ℕ

@@ -1,16 +1,16 @@
 -- The workspace before a search: a sound graph, its rows as built, every distance at "not reached", every count at 0. Assumes nothing.
-use mathlib.Core.Path.{_≡_, refl, sym, ap, _∙_}
+use mathlib.Core.Path.{_≡_, sym, ap, _∙_}
 use mathlib.Core.Bool.{Bool}
 use mathlib.Core.List.{List, [], _∷_}
-use Prim.Native.Nat.{ℕ, zero, suc, _+_, _*_, _-_, _≤_, _<_}
+use Prim.Native.Nat.{ℕ, suc, _+_, _-_, _≤_, _<_}
 use native.Mathlib.Nat.{zero-add}
 use native.Mathlib.Omega.{arith}
 use lib.ListN.{length, getD}
 use lib.Ieee.{Float}
-use Rattle.regions.specs.Region.{Frame, Filled}
-use Rattle.graph.specs.Edges.{Edge, Graph, edgesFrom, edgesOf, neighbours}
+use Rattle.regions.specs.Region.{Filled}
+use Rattle.graph.specs.Edges.{Graph, edgesFrom, edgesOf, neighbours}
 use Rattle.graph.specs.Pres.{Sound}
-use Rattle.rows.specs.Rows.{rowAt, rowsFront, Built}
+use Rattle.rows.specs.Rows.{rowsFront, Built}
 use Rattle.rows.proofs.Reading.{row-length, row-entry}
 use Rattle.hops.specs.Hops.{unreached, EndsIn, Valid}
 use Rattle.hops.specs.Search.{graphOf, RowsOf, Space, Fresh}

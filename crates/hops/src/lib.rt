@@ -1,7 +1,5 @@
 // Hop sequences and the search over neighbour rows: breadth first, with the fewest hops and the number of ways to each node (Brandes 2001).
 ghost use mathlib.Core.Path.{_≡_};
-ghost use Prim.Native.Nat.{_+_, _≤_, _<_};
-ghost use lib.ListN.{length};
 ghost use Rattle.hops.specs.Search.{SearchPre, SearchPost, OnPost, Visiting, VisitPost, BeginPre, Begun, TouchPre, Touched, grown, tooMany, ForgetPre, Forgotten};
 
 // What stands for "not reached".

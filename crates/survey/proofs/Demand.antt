@@ -1,32 +1,31 @@
 -- What surveys say to each other: the counts by way of the nodes k hops out add up, and the survey against the edges agrees. Stated of the lists that
 -- calls left in their result slices. Assumes nothing.
-use mathlib.Core.Path.{_≡_, refl, sym, ap, ap₂, _∙_, subst}
+use mathlib.Core.Path.{_≡_, refl, sym, ap, ap₂, _∙_}
 use mathlib.Core.Logic.{_≢_, _↔_, _⊎_, inl, inr}
 use mathlib.Core.Bool.{Bool, true, false, _&&_, cond, true≢false}
 use mathlib.Core.List.{List, [], _∷_, map}
-use Prim.Native.Nat.{ℕ, zero, suc, _+_, _-_, _*_, _≤_, _<_}
+use Prim.Native.Nat.{ℕ, suc, _-_, _*_, _≤_, _<_}
 use native.Mathlib.Omega.{arith}
 use borrow.Author.Tests.{eqb-true}
 use lib.Dec.{eqb, leb}
 use lib.ListN.{length, getD}
 use lib.Ieee.{Float}
-use Rattle.regions.specs.Region.{over, listOf}
+use Rattle.regions.specs.Region.{listOf}
 use Rattle.regions.proofs.Fronts.{list-long}
 use Rattle.regions.proofs.Parts.{list-at, over-at}
-use Rattle.regions.proofs.Cases.{bool-cases}
 use Rattle.graph.specs.declared.Answer.the-variants.{Paths}
 use Rattle.graph.specs.declared.Answer.{Answer}
 use Rattle.graph.specs.Answers.{Said, done, refusal, saidPlain, refuses, refusedWith}
 use Rattle.graph.specs.Edges.{Edge, edge, edgesFrom, edgesOf, Graph}
-use Rattle.graph.specs.Given.{Given, given, graphIn}
+use Rattle.graph.specs.Given.{Given, given}
 use Rattle.graph.specs.Left.{Left, left, wiped, lateRefusal, untouched, unlessRefused}
 use Rattle.graph.specs.Pres.{Passed}
 use Rattle.graph.specs.Refusals.{firstRefusal}
-use Rattle.graph.proofs.Refusals.{passed, plainTests, plain-ready, plain-start}
+use Rattle.graph.proofs.Refusals.{passed, plainTests}
 use Rattle.hops.specs.Sum.{sumOver, below, onlyIf}
 use Rattle.hops.specs.Hops.{Valid, unreached, dist, count, exceeds, pathLimit, turn, turned}
 use Rattle.hops.specs.Search.{graphOf}
-use Rattle.hops.proofs.Sums.{below-cong, eq-or-ne, eqb-yes, eqb-no}
+use Rattle.hops.proofs.Sums.{below-cong, eq-or-ne, eqb-no}
 use Rattle.hops.proofs.Demand.{on-the-way, turned-round}
 use Rattle.hops.proofs.Workspace.{valid}
 use Rattle.survey.specs.Survey.{Results, results, tooShort, surveyed, surveyOutcome}

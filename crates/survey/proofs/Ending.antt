@@ -1,15 +1,15 @@
 -- How `survey` ends: what its steps leave is the outcome. Assumes nothing.
-use mathlib.Core.Path.{_≡_, refl, sym, ap, ap₂, _∙_, subst}
-use mathlib.Core.Bool.{Bool, true, false, cond, _||_}
+use mathlib.Core.Path.{_≡_, sym, ap, ap₂, _∙_, subst}
+use mathlib.Core.Bool.{Bool, true, false, cond}
 use mathlib.Core.List.{List}
-use Prim.Native.Nat.{ℕ, _+_, _*_, _≤_, _<_}
+use Prim.Native.Nat.{ℕ, _≤_, _<_}
 use native.Mathlib.Nat.{zero-add}
 use native.Mathlib.Omega.{arith}
 use borrow.Author.Tests.{ltb-false, leb-false}
 use lib.Dec.{ltb, leb}
 use lib.ListN.{length, getD}
 use lib.Ieee.{Float}
-use Rattle.regions.specs.Region.{Front, over, listOf, part, cleared, zeroF}
+use Rattle.regions.specs.Region.{Front, over, listOf, part, cleared}
 use Rattle.regions.proofs.Fronts.{cleared-after, front-then, front-wide}
 use Rattle.regions.proofs.Parts.{part-is}
 use Rattle.graph.specs.declared.Fronts.{Fronts}
@@ -18,7 +18,6 @@ use Rattle.graph.specs.declared.Plain.the-variants as plain
 use Rattle.graph.specs.declared.Answer.{Answer}
 use Rattle.graph.specs.declared.Answer.the-variants.{Paths}
 use Rattle.graph.specs.Answers.{Said, done, saidPlain, refuses, refusedWith}
-use Rattle.graph.specs.Edges.{Graph}
 use Rattle.graph.specs.Fronts.{usualFronts}
 use Rattle.graph.specs.Given.{Given, edgesIn, graphIn}
 use Rattle.graph.specs.Layout.{distancesAt, queueAt}

@@ -1,10 +1,9 @@
 -- The survey's search: the regions filled, the search over the rows, and what of the workspace it changed. Assumes nothing.
-use mathlib.Core.Path.{_≡_, refl, sym, ap, _∙_, subst}
+use mathlib.Core.Path.{_≡_, refl, sym, subst}
 use mathlib.Core.List.{List}
-use Prim.Native.Nat.{ℕ, _+_, _*_, _≤_, _<_}
+use Prim.Native.Nat.{ℕ}
 use native.Mathlib.Omega.{arith}
-use lib.ListN.{length}
-use Rattle.regions.specs.Region.{Front, Filled, over, part}
+use Rattle.regions.specs.Region.{Filled, over, part}
 use Rattle.regions.proofs.Fronts.{front-then, front-wide}
 use Rattle.regions.proofs.Frames.{frame-front, frame2-front}
 use Rattle.graph.specs.declared.Plain.the-variants as plain
@@ -14,7 +13,7 @@ use Rattle.graph.specs.Layout.{distancesAt, queueAt}
 use Rattle.hops.specs.declared.Reached.{Reached}
 use Rattle.hops.specs.declared.Reached.the-variants as reached
 use Rattle.hops.specs.Hops.{unreached, pathLimit}
-use Rattle.hops.specs.Search.{graphOf, SearchPre, SearchPost}
+use Rattle.hops.specs.Search.{SearchPre, SearchPost}
 use Rattle.hops.proofs.Workspace.{space-filled, fresh-filled}
 use Rattle.survey.specs.Steps.{HeldRows, Surveyed, Written}
 

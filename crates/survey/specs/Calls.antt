@@ -7,7 +7,7 @@ use lib.Ieee.{Float}
 use Rattle.graph.specs.declared.Plain.{Plain}
 use Rattle.graph.specs.declared.Plain.the-variants as plain
 use Rattle.graph.specs.Answers.{saidPlain}
-use Rattle.graph.specs.Given.{Given, given}
+use Rattle.graph.specs.Given.{given}
 use Rattle.graph.specs.Left.{left}
 use Rattle.survey.specs.Survey.{Results, results, surveyOutcome}
 

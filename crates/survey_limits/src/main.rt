@@ -1,7 +1,7 @@
 // The survey at its limits, run at full size: 2^53 paths pass and one more is PATHS; 4,096 nodes pass and 4,097 are SIZE. Prints the answer's
 // number and, of a survey that was not refused, the distance and the count of the chain's end.
 use libc::STDOUT_FILENO;
-ghost use Prim.Native.Nat.{_+_, _*_, _≤_, _<_};
+ghost use Prim.Native.Nat.{_≤_, _<_};
 ghost use lib.ListN.{length};
 
 const NODES: usize = 4097;

@@ -1,12 +1,11 @@
 -- P1 and P3 of document 01, the survey's part: whole outcomes of the call, computed from the definition that its contract cites. Assumes nothing.
 use mathlib.Core.Path.{_≡_, refl}
 use mathlib.Core.Bool.{true, false}
-use mathlib.Core.List.{List, [], _∷_, _++_}
-use Prim.Native.Nat.{ℕ}
+use mathlib.Core.List.{[], _∷_, _++_}
 use lib.ListN.{replicate}
-use lib.Ieee.{Float, nan}
+use lib.Ieee.{nan}
 use Rattle.regions.specs.Region.{over, listOf, cleared, zeroF}
-use Rattle.graph.specs.declared.Answer.the-variants.{Node, Empty}
+use Rattle.graph.specs.declared.Answer.the-variants.{Node}
 use Rattle.graph.specs.Answers.{done, refusedWith}
 use Rattle.graph.specs.Edges.{edgesFrom, newestFirst, neighbours}
 use Rattle.graph.specs.Given.{Given, given}

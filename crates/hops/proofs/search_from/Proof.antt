@@ -1,5 +1,4 @@
 -- `hops::search_from` meets its contract: the start alone in the queue is where the visits begin. Assumes nothing.
-use borrow.Author.Needs.{needs}
 use Rattle.hops.proofs.Search.{begin-pre, begun-kept, kept-then, first}
 use Rattle.hops.proofs.search_from.Statement.{statement}
 use Rattle.hops.proofs.search_from.Tie as tie

@@ -1,13 +1,13 @@
 -- `hops::visit` meets its contract: at each entry the search is as `Scan` says. Assumes nothing.
-use mathlib.Core.Path.{_≡_, sym, _∙_, subst}
+use mathlib.Core.Path.{sym, _∙_}
 use mathlib.Core.Bool.{Bool}
 use mathlib.Core.List.{List}
-use Prim.Native.Nat.{ℕ, _+_, _-_, _≤_, _<_}
+use Prim.Native.Nat.{ℕ, _+_, _-_}
 use native.Mathlib.Omega.{arith}
-use lib.ListN.{length, getD}
+use lib.ListN.{getD}
 use Rattle.graph.specs.Edges.{Edge}
-use Rattle.hops.specs.Search.{graphOf, Search, Visiting}
-use Rattle.hops.proofs.Scans.{Scan, Begins, begun, grown-most, scan-none, in-rows, scan-pre, scan-kept, scan-step, scan-paths, place-fits, scan-done}
+use Rattle.hops.specs.Search.{graphOf, Search}
+use Rattle.hops.proofs.Scans.{Scan, begun, grown-most, scan-none, in-rows, scan-pre, scan-kept, scan-step, scan-paths, place-fits, scan-done}
 use borrow.Author.Needs.{needs}
 use Rattle.hops.proofs.visit.Statement.{statement}
 use Rattle.hops.proofs.visit.Tie as tie

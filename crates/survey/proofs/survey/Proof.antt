@@ -1,14 +1,12 @@
 -- `survey::survey` meets its contract: a refusal by its test, the rest by what the steps leave. Assumes nothing.
-use mathlib.Core.Path.{_≡_, sym, _∙_, ap}
-use mathlib.Core.Bool.{Bool, true}
+use mathlib.Core.Bool.{true}
 use borrow.Author.Needs.{needs}
 use lib.Dec.{leb}
 use lib.ListN.{length}
-use Rattle.graph.specs.declared.Answer.{Answer}
 use Rattle.graph.specs.Given.{Given, given}
 use Rattle.graph.specs.Pres.{Passed}
-use Rattle.graph.proofs.Refusals.{plainTests, passed}
-use Rattle.survey.specs.Survey.{Results, results, tooShort, surveyOutcome}
+use Rattle.graph.proofs.Refusals.{plainTests}
+use Rattle.survey.specs.Survey.{Results, results, tooShort}
 use Rattle.survey.proofs.Ending.{refused-survey, passed-survey, limits, build-pre, held, write-pre, wipe-pre, ended}
 use Rattle.survey.proofs.survey.Statement.{statement}
 use Rattle.survey.proofs.survey.Tie as tie
