@@ -1,0 +1,2 @@
+pub mod Eigenvector
+pub mod Steps
