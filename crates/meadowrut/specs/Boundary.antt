@@ -5,6 +5,7 @@ use lib.Dec.{eqb}
 use Rattle.regions.specs.Region.{zeroF}
 use Rattle.graph.specs.declared.Rounds.{Rounds}
 use Rattle.graph.specs.Answers.{Said, done, refusal}
+use Rattle.graph.specs.Left.{Left, left}
 use Rattle.meadowrut.specs.declared.Settings.{Settings}
 use Rattle.meadowrut.specs.declared.Report.{Report}
 use Rattle.meadowrut.specs.declared.Election.{Election}
@@ -39,3 +40,7 @@ reported (refusal k) = record { answer = k; settled = 0; rounds = 0; settings = 
 abbrev pub counted : Said ℕ → Election
 counted (done k) = record { answer = 0; elected = k }
 counted (refusal k) = record { answer = k; elected = 0 }
+
+-- what a call leaves, with what it says put another way
+abbrev pub voiced : {A B R : Type 0} → (A → B) → Left A R → Left B R
+voiced f o = left (f (o .says)) (o .results) (o .w32) (o .w64) (o .wf)

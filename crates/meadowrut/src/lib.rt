@@ -5,11 +5,21 @@ ghost use mathlib.Core.List.{[]};
 ghost use Rattle.roots.specs.Root.{sqrtOf, SquareRoot};
 ghost use Rattle.roots.specs.Absolute.{absOf};
 ghost use Rattle.roots.specs.Maximum.{maxOf};
+ghost use Rattle.graph.specs.Answers.{done, refusedWith, saidEnded, saidElected};
 ghost use Rattle.graph.specs.Settings.{usualSettings};
 ghost use Rattle.graph.specs.Given.{given};
+ghost use Rattle.graph.specs.Given.{given as lent};
 ghost use Rattle.graph.specs.Left.{left, inNumbers};
 ghost use Rattle.degree.specs.Degree.{degreeOutcome, inDegreeOutcome, outDegreeOutcome};
-ghost use Rattle.meadowrut.specs.Boundary.{raised, returned, reported, counted};
+ghost use Rattle.survey.specs.Survey.{results, surveyOutcome};
+ghost use Rattle.other.specs.Laplacian.{laplacianOutcome};
+ghost use Rattle.other.specs.VoteRank.{voterankOutcome};
+ghost use Rattle.katz.specs.Katz.{katzOutcome};
+ghost use Rattle.meadowrut.specs.Boundary.{raised, asked, returned, reported, counted, voiced, asNumber};
+use graph::Answer;
+use graph::Elected;
+use graph::Ended;
+use graph::Rounds;
 
 // What the iterative calls are asked.
 #[repr(C)]
@@ -108,4 +118,208 @@ pub extern "C" fn meadowrut_out_degree(
     ensures { λ r. ⌜ left r (now (scores .exit)) [] [] [] ≡ inNumbers (outDegreeOutcome (given nodes (raised directed) (now (from .entry)) (now (to .entry)) (now (weight .entry)) (now (scores .entry)) [] [] [])) ⌝ }
 {
     graph::plain_number(degree::out_degree(nodes, directed != 0, from, to, weight, scores))
+}
+
+#[no_mangle]
+pub extern "C" fn meadowrut_survey(
+    nodes: usize,
+    directed: u32,
+    from: &[u32],
+    to: &[u32],
+    weight: &[f64],
+    start: usize,
+    distances: &mut [u32],
+    counts: &mut [u64],
+    w32: &mut [u32],
+    w64: &mut [u64],
+    wf: &mut [f64],
+) -> u32
+    ensures { λ r. ⌜ left r (results (now (distances .exit)) (now (counts .exit))) (now (w32 .exit)) (now (w64 .exit)) (now (wf .exit)) ≡ inNumbers (surveyOutcome start (given nodes (raised directed) (now (from .entry)) (now (to .entry)) (now (weight .entry)) (results (now (distances .entry)) (now (counts .entry))) (now (w32 .entry)) (now (w64 .entry)) (now (wf .entry)))) ⌝ }
+{
+    graph::plain_number(survey::survey(
+        nodes,
+        directed != 0,
+        from,
+        to,
+        weight,
+        start,
+        distances,
+        counts,
+        w32,
+        w64,
+        wf,
+    ))
+}
+
+#[no_mangle]
+pub extern "C" fn meadowrut_laplacian(
+    nodes: usize,
+    directed: u32,
+    from: &[u32],
+    to: &[u32],
+    weight: &[f64],
+    scores: &mut [f64],
+    w32: &mut [u32],
+    w64: &mut [u64],
+    wf: &mut [f64],
+) -> u32
+    ensures { λ r. ⌜ left r (now (scores .exit)) (now (w32 .exit)) (now (w64 .exit)) (now (wf .exit)) ≡ inNumbers (laplacianOutcome (given nodes (raised directed) (now (from .entry)) (now (to .entry)) (now (weight .entry)) (now (scores .entry)) (now (w32 .entry)) (now (w64 .entry)) (now (wf .entry)))) ⌝ }
+{
+    graph::plain_number(other::laplacian(
+        nodes,
+        directed != 0,
+        from,
+        to,
+        weight,
+        scores,
+        w32,
+        w64,
+        wf,
+    ))
+}
+
+#[no_mangle]
+pub extern "C" fn meadowrut_voterank(
+    nodes: usize,
+    directed: u32,
+    from: &[u32],
+    to: &[u32],
+    weight: &[f64],
+    seeds: usize,
+    elected: &mut [u32],
+    w32: &mut [u32],
+    w64: &mut [u64],
+    wf: &mut [f64],
+) -> Election
+    ensures { λ r. ⌜ left r (now (elected .exit)) (now (w32 .exit)) (now (w64 .exit)) (now (wf .exit)) ≡ voiced counted (voterankOutcome seeds (given nodes (raised directed) (now (from .entry)) (now (to .entry)) (now (weight .entry)) (now (elected .entry)) (now (w32 .entry)) (now (w64 .entry)) (now (wf .entry)))) ⌝ }
+{
+    let said = other::voterank(
+        nodes,
+        directed != 0,
+        from,
+        to,
+        weight,
+        seeds,
+        elected,
+        w32,
+        w64,
+        wf,
+    );
+    election_of(said)
+}
+
+#[no_mangle]
+pub extern "C" fn meadowrut_katz(
+    nodes: usize,
+    directed: u32,
+    from: &[u32],
+    to: &[u32],
+    weight: &[f64],
+    settings: Settings,
+    given: u32,
+    beta: &[f64],
+    scores: &mut [f64],
+    w32: &mut [u32],
+    w64: &mut [u64],
+    wf: &mut [f64],
+) -> Report
+    ensures { λ r. ⌜ left r (now (scores .exit)) (now (w32 .exit)) (now (w64 .exit)) (now (wf .exit)) ≡ voiced reported (katzOutcome (asked settings) (raised given) (now (beta .entry)) (lent nodes (raised directed) (now (from .entry)) (now (to .entry)) (now (weight .entry)) (now (scores .entry)) (now (w32 .entry)) (now (w64 .entry)) (now (wf .entry)))) ⌝ }
+{
+    let asked = settings_of(settings);
+    let ended = katz::katz(
+        nodes,
+        directed != 0,
+        from,
+        to,
+        weight,
+        asked,
+        given != 0,
+        beta,
+        scores,
+        w32,
+        w64,
+        wf,
+    );
+    report_of(ended)
+}
+
+// The settings as the calls take them.
+fn settings_of(s: Settings) -> graph::Settings
+    ensures { λ r. ⌜ r ≡ asked s ⌝ }
+{
+    graph::Settings {
+        damping: s.damping,
+        tolerance: s.tolerance,
+        limit: s.limit,
+    }
+}
+
+// What an iterative call returned, in numbers; a refusal's other numbers are 0.
+fn report_of(e: Ended) -> Report
+    ensures { λ r. ⌜ r ≡ reported (saidEnded e) ⌝ }
+{
+    match e {
+        Ended::Done(r) => done_report(r),
+        Ended::Refused(r) => {
+            let answer = r.answer;
+            refused_report(answer)
+        }
+    }
+}
+
+fn done_report(r: Rounds) -> Report
+    ensures { λ x. ⌜ x ≡ reported (done r) ⌝ }
+{
+    let s = r.settings;
+    Report {
+        answer: 0,
+        settled: as_number(r.settled),
+        rounds: r.rounds,
+        settings: Settings {
+            damping: s.damping,
+            tolerance: s.tolerance,
+            limit: s.limit,
+        },
+    }
+}
+
+fn refused_report(answer: Answer) -> Report
+    ensures { λ x. ⌜ x ≡ reported (refusedWith answer) ⌝ }
+{
+    Report {
+        answer: graph::number(answer),
+        settled: 0,
+        rounds: 0,
+        settings: Settings {
+            damping: 0.0,
+            tolerance: 0.0,
+            limit: 0,
+        },
+    }
+}
+
+// What an election returned, in numbers.
+fn election_of(e: Elected) -> Election
+    ensures { λ r. ⌜ r ≡ counted (saidElected e) ⌝ }
+{
+    match e {
+        Elected::Done(k) => Election {
+            answer: 0,
+            elected: k,
+        },
+        Elected::Refused(r) => {
+            let answer = r.answer;
+            Election {
+                answer: graph::number(answer),
+                elected: 0,
+            }
+        }
+    }
+}
+
+// 1 for yes, 0 for no.
+fn as_number(b: bool) -> u32
+    ensures { λ r. ⌜ r ≡ asNumber b ⌝ }
+{
+    if b { 1 } else { 0 }
 }
