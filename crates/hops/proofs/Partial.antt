@@ -31,7 +31,7 @@ module _ {g : Graph} (ok : Valid g) {s : ℕ} (hs : s < g .nodes) {d c : ℕ →
           pick (inr n) = absurd (omega (arith, M .later w n .0))
 
   -- whatever lies within d u hops has a label, and one that is no larger
-  within : (k v : ℕ) → k ≤ d u → 0 < walks g k s v → (d v ≢ unreached) × (d v ≤ k)
+  pub within : (k v : ℕ) → k ≤ d u → 0 < walks g k s v → (d v ≢ unreached) × (d v ≤ k)
   unfolding walks
   within zero v l h = let p : d v ≡ 0 = ap d (sym (same-pos s v h)) ∙ M .start in (λ q. omega arith, omega arith)
   within (suc k) v l h =

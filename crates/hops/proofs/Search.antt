@@ -28,12 +28,12 @@ use Rattle.hops.proofs.Partial.{label-dist, ways-most}
 
 -- ---- places of lists
 
-getD-mem : (l : List ℕ) (j : ℕ) → j < length l → List·Memᴰ (getD l j 0) l
+pub getD-mem : (l : List ℕ) (j : ℕ) → j < length l → List·Memᴰ (getD l j 0) l
 getD-mem [] j h = absurd (omega arith)
 getD-mem (x ∷ xs) zero h = List·Memᴰ·head refl
 getD-mem (x ∷ xs) (suc j) h = List·Memᴰ·tail (getD-mem xs j (omega arith))
 
-mem-getD : (l : List ℕ) (x : ℕ) → List·Memᴰ x l → (j : ℕ) × (j < length l) × (getD l j 0 ≡ x)
+pub mem-getD : (l : List ℕ) (x : ℕ) → List·Memᴰ x l → (j : ℕ) × (j < length l) × (getD l j 0 ≡ x)
 mem-getD l x (List·Memᴰ·head {x = y} {xs} e) = (0, omega arith, sym e)
 mem-getD l x (List·Memᴰ·tail {x = y} {xs} m) = let r = mem-getD xs x m in (suc (r .0), omega (arith, r .1), r .2)
 
@@ -97,7 +97,7 @@ unchanged {n} {D} {Q} {w} {c} {w′} {c′} p q =
 -- ---- where a search stands
 
 module _ {g : Graph} {limit s : ℕ} {w c : List ℕ} {D Q head tail u j : ℕ} (S : Search g limit s w c D Q head tail u j) where
-  queue-long : length (S .done ++ (u ∷ S .rest)) ≡ tail
+  pub queue-long : length (S .done ++ (u ∷ S .rest)) ≡ tail
   queue-long = sym (ap length (S .queue)) ∙ list-long (cells w Q) tail
 
   count-queue : tail ≡ head + (1 + length (S .rest))

@@ -1,6 +1,11 @@
 pub mod Sums
 pub mod Steps
 pub mod Ending
+pub mod Walks
+pub mod Within
+pub mod Undoing
+pub mod Starting
+pub mod Reached
 pub mod Voting
 pub mod Polling
 pub mod Closing

@@ -11,6 +11,7 @@ use Rattle.graph.specs.Left.{Left, left}
 use Rattle.graph.proofs.Left.{no-second}
 use Rattle.graph.proofs.Said.{plain-returned, elected-returned}
 use Rattle.other.specs.Laplacian.{laplacianOutcome}
+use Rattle.other.specs.Reaching.{reachingOutcome}
 use Rattle.other.specs.VoteRank.{voterankOutcome}
 
 -- of a call with scores
@@ -22,6 +23,12 @@ pub laplacian-unique : (g : Given (List Float)) {p p′ : Plain} {s s′ : List 
     → left (saidPlain p) s x y z ≡ laplacianOutcome g → left (saidPlain p′) s′ x′ y′ z′ ≡ laplacianOutcome g
     → (p ≡ p′) × (s ≡ s′) × (x ≡ x′) × (y ≡ y′) × (z ≡ z′)
 laplacian-unique g a b = plain-unique (laplacianOutcome g) a b
+
+-- of `global_reaching` too, with the limit n
+pub reaching-unique : (limit : ℕ) (g : Given (List Float)) {p p′ : Plain} {s s′ : List Float} {x x′ y y′ : List ℕ} {z z′ : List Float}
+    → left (saidPlain p) s x y z ≡ reachingOutcome limit g → left (saidPlain p′) s′ x′ y′ z′ ≡ reachingOutcome limit g
+    → (p ≡ p′) × (s ≡ s′) × (x ≡ x′) × (y ≡ y′) × (z ≡ z′)
+reaching-unique limit g a b = plain-unique (reachingOutcome limit g) a b
 
 pub voterank-unique : (seeds : ℕ) (g : Given (List ℕ)) {p p′ : Elected} {s s′ : List ℕ} {x x′ y y′ : List ℕ} {z z′ : List Float}
     → left (saidElected p) s x y z ≡ voterankOutcome seeds g → left (saidElected p′) s′ x′ y′ z′ ≡ voterankOutcome seeds g

@@ -1,0 +1,42 @@
+-- Reaching centralities (document 01, "Reaching"; Mones et al.; graphina's other.rs): the other nodes within a hop limit. Definitions only.
+use mathlib.Core.Bool.{Bool, false, not, _&&_, cond}
+use mathlib.Core.List.{List}
+use Prim.Native.Nat.{ℕ, _-_}
+use lib.Dec.{eqb, leb, ltb}
+use lib.IntN.{pos}
+use lib.ListN.{length}
+use lib.Ieee.{Float, binary64, ofInt, div}
+use Rattle.regions.specs.Region.{zeroF, over, listOf}
+use Rattle.graph.specs.Answers.{Said, done}
+use Rattle.graph.specs.Edges.{Graph}
+use Rattle.graph.specs.Given.{Given, graphIn}
+use Rattle.graph.specs.Left.{Left, wiped, unlessRefused}
+use Rattle.graph.specs.Refusals.{plainly}
+use Rattle.hops.specs.Sum.{sumOver, below, onlyIf}
+use Rattle.hops.specs.Hops.{unreached, dist}
+
+-- some hops lead from s to v, and the fewest are at most the limit
+abbrev pub inReach : Graph → ℕ → ℕ → ℕ → Bool
+inReach g limit s v = not (eqb (dist g s v) unreached) && leb (dist g s v) limit
+
+-- how many other nodes are within the limit of s
+unfoldable pub othersIn : Graph → ℕ → ℕ → ℕ
+othersIn g limit s = sumOver (below (g .nodes)) (λ v. onlyIf (not (eqb v s) && inReach g limit s v) 1)
+
+-- k of the n - 1 other nodes; 0 if there is none
+abbrev pub shareOf : ℕ → ℕ → Float
+shareOf n k = cond (ltb 1 n) (div binary64 (ofInt binary64 (pos k)) (ofInt binary64 (pos (n - 1)))) zeroF
+
+-- the score of s
+unfoldable pub reachScore : Graph → ℕ → ℕ → Float
+reachScore g limit s = shareOf (g .nodes) (othersIn g limit s)
+
+-- what `local_reaching` leaves
+unfoldable pub reachingOutcome : ℕ → Given (List Float) → Left (Said (Unit {0})) (List Float)
+reachingOutcome limit g =
+    unlessRefused g (plainly g false false (ltb (length (g .results)) (g .nodes)))
+    (wiped g (done tt) (over (listOf (reachScore (graphIn g) limit) (g .nodes)) (g .results)))
+
+-- what `global_reaching` leaves: the limit is n
+abbrev pub globalOutcome : Given (List Float) → Left (Said (Unit {0})) (List Float)
+globalOutcome g = reachingOutcome (g .nodes) g
