@@ -208,13 +208,7 @@ fn reach_from(
 }
 
 // Node by node of the queue, until one is as far as the limit or nothing new is reached.
-fn reach_within(
-    nodes: usize,
-    limit: u64,
-    distances: usize,
-    queue: usize,
-    w: &mut [u32],
-) -> usize
+fn reach_within(nodes: usize, limit: u64, distances: usize, queue: usize, w: &mut [u32]) -> usize
     requires { ⌜ WithinPre nodes limit distances queue (now w) ⌝ }
     ensures { λ r. ⌜ WithinPost nodes limit distances queue (now (w .entry)) (now (w .exit)) r ⌝ }
 {

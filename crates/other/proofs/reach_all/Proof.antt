@@ -61,8 +61,7 @@ loop-again c =
     let at = c .before .before .before .before .before .before .before .before .before .before in
     let l = c .before .before .before .before .before .before .before .before .before .loop-test .taken in
     let p = c .before .before .before .before .before .before .before .reach-from .ensures in
-    let u = c .before .before .before .undo .ensures in
-    (
+    let u = c .before .before .before .undo .ensures in (
       omega (arith, l),
       kept-on _ _ (here at) l p u (at .loop .inv .1),
       length-set (at .loop .scores) (at .loop .s) (c .share .result) ∙ at .loop .inv .2,
