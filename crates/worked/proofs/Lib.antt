@@ -1,4 +1,5 @@
 pub mod Other
+pub mod PageRank
 pub mod Roots
 pub mod Survey
 pub mod Table

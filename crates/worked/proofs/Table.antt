@@ -1,5 +1,6 @@
 -- Document 01's worked cases as one table: a row for each case, proved in the file of its layer. Assumes nothing.
 use Rattle.worked.proofs.Other.{P4-laplacian, p4-laplacian, P5, p5}
+use Rattle.worked.proofs.PageRank.{P6-pagerank, p6-pagerank}
 use Rattle.worked.proofs.Roots.{P8, p8}
 use Rattle.worked.proofs.Survey.{P1-survey, p1-survey, P3-survey, p3-survey}
 
@@ -8,6 +9,7 @@ pub record Table : Type 0 where
   pub survey-doubled : P3-survey
   pub laplacian-path : P4-laplacian
   pub self-loop : P5
+  pub pagerank-edge : P6-pagerank
   pub roots : P8
 
 pub table : Table
@@ -17,5 +19,6 @@ table =
       survey-doubled = p3-survey;
       laplacian-path = p4-laplacian;
       self-loop = p5;
+      pagerank-edge = p6-pagerank;
       roots = p8;
     }

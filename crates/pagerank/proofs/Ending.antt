@@ -1,0 +1,164 @@
+-- How the PageRanks begin and end: what is prepared is what the definition reads, and what is left is the outcome. Assumes nothing.
+use mathlib.Core.Path.{_≡_, refl, sym, ap, _∙_}
+use mathlib.Core.Bool.{Bool, true, false}
+use mathlib.Core.List.{List}
+use Prim.Native.Nat.{ℕ, _+_, _*_, _≤_, _<_}
+use native.Mathlib.Omega.{arith}
+use lib.Dec.{eqb}
+use lib.ListN.{length, getD}
+use lib.Ieee.{Float, nan}
+use Rattle.regions.specs.Region.{over, cleared, zeroF, listOf, part, Front, Frame}
+use Rattle.regions.proofs.Fronts.{list-same, cleared-after, cleared-afterD, front-wide, front-then}
+use Rattle.regions.proofs.Frames.{frame-front, frame-part}
+use Rattle.regions.proofs.Parts.{part-is}
+use Rattle.graph.specs.declared.Answer.{Answer}
+use Rattle.graph.specs.declared.Settings.{Settings}
+use Rattle.graph.specs.declared.Rounds.{Rounds}
+use Rattle.graph.specs.Answers.{Said, done}
+use Rattle.graph.specs.Edges.{Graph, edgesOf, outWeight}
+use Rattle.graph.specs.Fronts.{usualFronts}
+use Rattle.graph.specs.Given.{Given, edgesIn, graphIn}
+use Rattle.graph.specs.Left.{Left, left, Wiped}
+use Rattle.graph.specs.Pres.{Ready, Passed, Limits}
+use Rattle.graph.specs.Refusals.{Tests, firstRefusal}
+use Rattle.graph.proofs.Left.{went-on}
+use Rattle.lists.specs.Lists.{sharesOf, sharesAt, weightOf, listsFront, BuildPre, Built, OutPre, OutWeights}
+use Rattle.lists.proofs.Shares.{shares-built, out-weight-is}
+use Rattle.rounds.specs.declared.Own.{Own}
+use Rattle.rounds.specs.Rounds.{Round, Out, out, outcome}
+use Rattle.rounds.specs.Tests.{readsWrong, lengthWrong, iterativeTests}
+use Rattle.rounds.specs.Ending.{reported, scored, WritePre}
+use Rattle.rounds.specs.Steps.{RoundsDone}
+use Rattle.rounds.specs.Vectors.{currentIn}
+use Rattle.rounds.proofs.Tests.{iterative-ready, iterative-fits, length-right}
+use Rattle.pagerank.specs.Links.{Links, linksOf, linksIn, outsIn, divisorOf, dividedAt, divided}
+use Rattle.pagerank.specs.PageRank.{pagerankStep, pagerankRounds, startWrong, pagerankOwn, pagerankTests, pagerankOutcome}
+use Rattle.pagerank.specs.Steps.{LinksPre, PreparePre, Prepared, writtenBy, DividePre, Divided}
+
+-- ---- `prepare`
+module _ (n : ℕ) (directed : Bool) (fs ts : List ℕ) (xs : List Float) (w : List ℕ) (wf : List Float) (pre : PreparePre n fs ts xs w wf) where
+  pub build-pre : BuildPre n fs ts xs w
+  build-pre = record { sound = pre .sound; room = pre .narrow }
+
+  module _ (w1 : List ℕ) (b : Built n directed fs ts xs w w1) where
+    pub out-pre : OutPre n (length fs) xs w1 wf
+    out-pre = record { fit = b .fit; weights = pre .sound .sized .weights; room = omega (arith, pre .floats) }
+
+    module _ (wf1 : List Float) (o : OutWeights n (length fs) xs w1 wf wf1) where
+      outs-are : outsIn n wf1 ≡ listOf (outWeight directed (edgesOf fs ts xs)) n
+      outs-are =
+          part-is nan wf1 (2 * n) n (outWeight directed (edgesOf fs ts xs)) (omega (arith, pre .floats, o .frame .long))
+          (λ v l. o .at nan v l ∙ ap weightOf (shares-built n directed fs ts xs (pre .sound) w w1 b v l) ∙ sym (out-weight-is directed (edgesOf fs ts xs) v))
+
+      shares-are : listOf (sharesAt n (length fs) xs w1) n ≡ listOf (sharesOf directed (edgesOf fs ts xs)) n
+      shares-are = list-same (sharesAt n (length fs) xs w1) (sharesOf directed (edgesOf fs ts xs)) n (λ v l. shares-built n directed fs ts xs (pre .sound) w w1 b v l)
+
+      pub prepared : Prepared n directed fs ts xs w w1 wf wf1
+      prepared =
+          record {
+            narrow = b .front;
+            floats = frame-front (4 * n) (omega arith) (o .frame);
+            links = cc (outs-are, shares-are);
+            pre = record { fit = b .fit; weights = pre .sound .sized .weights; room = omega (arith, pre .floats, o .frame .long) };
+          }
+
+-- ---- `write`
+pub wrote : (n m : ℕ) (r : Rounds) (scores : List Float) (w32 w64 : List ℕ) (wf : List Float) {scores′ : List Float} {w32′ w64′ : List ℕ} {wf′ : List Float}
+    → scores′ ≡ over (currentIn n wf) scores → Wiped (usualFronts n m) w32 w64 wf w32′ w64′ wf′
+    → left (done r) scores′ w32′ w64′ wf′ ≡ writtenBy (usualFronts n m) r (currentIn n wf) scores w32 w64 wf
+wrote n m r scores w32 w64 wf e z = cc (e, z .p32, z .p64, z .pf)
+
+-- what was written is DONE with the rounds' outcome o
+pub scored-ends : (g : Given (List Float)) (settings : Settings) (o : Out (List Float)) (r : Rounds) {w1 : List ℕ} {x wf1 : List Float}
+    → Front (g .w32) (usualFronts (g .nodes) (length (g .from)) .narrow) w1 → Front (g .wf) (usualFronts (g .nodes) (length (g .from)) .floats) wf1
+    → r .settings ≡ settings → out x (r .rounds) (r .settled) ≡ o
+    → writtenBy (usualFronts (g .nodes) (length (g .from))) r x (g .results) w1 (g .w64) wf1 ≡ scored g settings o
+scored-ends g settings o r {w1} {x} {wf1} f32 ff es eo =
+    let f = usualFronts (g .nodes) (length (g .from)) in
+    ap (λ (z : List ℕ). left (done r) (over x (g .results)) z (cleared 0 (f .wide) (g .w64)) (cleared zeroF (f .floats) wf1)) (cleared-after f32)
+    ∙ ap (λ (z : List Float). left (done r) (over x (g .results)) (cleared 0 (f .narrow) (g .w32)) (cleared 0 (f .wide) (g .w64)) z) (cleared-afterD zeroF ff)
+    ∙ ap (λ (s : Settings). writtenBy f (record { settings = s; rounds = r .rounds; settled = r .settled }) x (g .results) (g .w32) (g .w64) (g .wf)) es
+    ∙ ap (λ (p : Out (List Float)). writtenBy f (reported settings p) (p .last) (g .results) (g .w32) (g .w64) (g .wf)) eo
+
+-- ---- a call that nothing refused
+module _ (g : Given (List Float)) (ok : Ready g) (fits : g .nodes ≤ length (g .results)) where
+  pub prepare-pre : PreparePre (g .nodes) (g .from) (g .to) (g .weight) (g .w32) (g .wf)
+  prepare-pre = record { sound = ok .sound; narrow = omega (arith, ok .roomy .r32); floats = omega (arith, ok .roomy .rf) }
+
+  module _ {w1 : List ℕ} {wf1 : List Float} (p : Prepared (g .nodes) (g .directed) (g .from) (g .to) (g .weight) (g .w32) w1 (g .wf) wf1) where
+    -- wf3 is what the rounds left
+    pub write-pre : {wf3 : List Float} → Front wf1 (4 * g .nodes) wf3 → Limits (g .nodes) (length (g .from)) × WritePre (g .nodes) (usualFronts (g .nodes) (length (g .from))) (g .results) w1 (g .w64) wf3
+    write-pre f = (
+      ok .sound .limits,
+      record {
+        roomy = record {
+          r32 = omega (arith, ok .roomy .r32, p .narrow .long);
+          r64 = ok .roomy .r64;
+          rf = omega (arith, ok .roomy .rf, p .floats .long, f .long);
+        };
+        vector = omega (arith, ok .roomy .rf, p .floats .long, f .long);
+        fits = fits;
+      },
+    )
+
+    pub written : {wf3 x : List Float} (settings : Settings) (o : Out (List Float)) (r : Rounds) → Front wf1 (4 * g .nodes) wf3 → r .settings ≡ settings → out x (r .rounds) (r .settled) ≡ o
+        → writtenBy (usualFronts (g .nodes) (length (g .from))) r x (g .results) w1 (g .w64) wf3 ≡ scored g settings o
+    written settings o r f es eo = scored-ends g settings o r (front-wide _ (omega arith) (p .narrow)) (front-wide _ (omega arith) (front-then (p .floats) f)) es eo
+
+-- ---- `pagerank`
+module _ (settings : Settings) (flag : Bool) (start : List Float) (g : Given (List Float)) where
+  -- the tests as the code found them
+  pub answered : {a : Answer} {b c d : Bool} {sum : Float}
+      → a ≡ firstRefusal (iterativeTests g false (record { number = b; damping = false; rounds = false; lengths = c; start = d }))
+      → b ≡ readsWrong (g .weight) (settings .damping) (settings .tolerance) flag start → c ≡ lengthWrong flag (length start) (g .nodes) → d ≡ startWrong flag (g .nodes) sum → sum ≡ divisorOf flag start (g .nodes)
+      → a ≡ firstRefusal (pagerankTests settings flag start g)
+  answered {a} {b} {c} {d} {sum} e eb ec ed es =
+      e
+      ∙ ap (λ (z : Bool). firstRefusal (iterativeTests g false (record { number = z; damping = false; rounds = false; lengths = c; start = d }))) eb
+      ∙ ap (λ (z : Bool). firstRefusal (iterativeTests g false (record { number = readsWrong (g .weight) (settings .damping) (settings .tolerance) flag start; damping = false; rounds = false; lengths = z; start = d }))) ec
+      ∙ ap
+      (λ (z : Bool). firstRefusal (iterativeTests g false (record { number = readsWrong (g .weight) (settings .damping) (settings .tolerance) flag start; damping = false; rounds = false; lengths = lengthWrong flag (length start) (g .nodes); start = z })))
+      (ed ∙ ap (startWrong flag (g .nodes)) es)
+
+  module _ (p : Passed (pagerankTests settings flag start g)) where
+    pub ready : Ready g
+    ready = iterative-ready g false (pagerankOwn settings flag start g) p
+
+    pub fits : g .nodes ≤ length (g .results)
+    fits = iterative-fits g false (pagerankOwn settings flag start g) p
+
+    module _ {w1 : List ℕ} {wf1 : List Float} (s1 : Prepared (g .nodes) (g .directed) (g .from) (g .to) (g .weight) (g .w32) w1 (g .wf) wf1) where
+      pub divide-pre : DividePre (g .nodes) flag start 0 wf1
+      divide-pre = record { long = length-right flag (length start) (g .nodes) (p .lengths); room = omega (arith, s1 .pre .room) }
+
+      module _ {wf2 : List Float} {sum : Float} (es : sum ≡ divisorOf flag start (g .nodes)) (s2 : Divided (g .nodes) (listOf (dividedAt flag start sum) (g .nodes)) 0 wf1 wf2) where
+        pub run-pre : LinksPre (g .nodes) (length (g .from)) (g .weight) w1 wf2
+        run-pre = record { fit = s1 .pre .fit; weights = s1 .pre .weights; room = omega (arith, s1 .pre .room, s2 .frame .long) }
+
+        links : linksIn (g .nodes) (length (g .from)) (g .weight) w1 wf2 ≡ linksOf (graphIn g)
+        links =
+            ap (λ (o : List Float). record { nodes = g .nodes; outs = o; shares = listOf (sharesAt (g .nodes) (length (g .from)) (g .weight) w1) (g .nodes) })
+            (frame-part nan (2 * g .nodes) (g .nodes) (s2 .frame) (omega (arith, s1 .pre .room)) (λ i l a b. omega arith))
+            ∙ s1 .links
+
+        begins : currentIn (g .nodes) wf2 ≡ divided flag start (g .nodes)
+        unfolding divided
+        begins = s2 .there ∙ ap (λ (z : Float). listOf (dividedAt flag start z) (g .nodes)) es
+
+        rounds-are : outcome (eqb (g .nodes) 0) (pagerankStep (linksIn (g .nodes) (length (g .from)) (g .weight) w1 wf2) (settings .damping) (settings .tolerance)) (settings .limit) (currentIn (g .nodes) wf2)
+            ≡ pagerankRounds (linksOf (graphIn g)) settings flag start
+        unfolding pagerankRounds
+        rounds-are =
+            ap (λ (l : Links). outcome (eqb (g .nodes) 0) (pagerankStep l (settings .damping) (settings .tolerance)) (settings .limit) (currentIn (g .nodes) wf2)) links
+            ∙ ap (outcome (eqb (g .nodes) 0) (pagerankStep (linksOf (graphIn g)) (settings .damping) (settings .tolerance)) (settings .limit)) begins
+
+        module _ {wf3 : List Float} {r : Rounds} (s3 : RoundsDone (g .nodes) settings (outcome (eqb (g .nodes) 0) (pagerankStep (linksIn (g .nodes) (length (g .from)) (g .weight) w1 wf2) (settings .damping) (settings .tolerance)) (settings .limit) (currentIn (g .nodes) wf2)) wf2 r wf3) where
+          pub moved : Front wf1 (4 * g .nodes) wf3
+          moved = front-then (frame-front (4 * g .nodes) (omega arith) (s2 .frame)) (front-wide (4 * g .nodes) (omega arith) (s3 .front))
+
+          pub ended : {o : Left (Said Rounds) (List Float)} → o ≡ writtenBy (usualFronts (g .nodes) (length (g .from))) r (currentIn (g .nodes) wf3) (g .results) w1 (g .w64) wf3 → o ≡ pagerankOutcome settings flag start g
+          unfolding pagerankOutcome
+          ended e =
+              e
+              ∙ written g ready fits s1 settings (pagerankRounds (linksOf (graphIn g)) settings flag start) r moved (s3 .settings-kept) (s3 .ended ∙ rounds-are)
+              ∙ went-on g (pagerankTests settings flag start g) (scored g settings (pagerankRounds (linksOf (graphIn g)) settings flag start)) p

@@ -1,0 +1,5 @@
+pub mod Turns
+pub mod Nodes
+pub mod Ending
+pub mod Changes
+pub mod Reader

@@ -1,0 +1,170 @@
+-- The turns of the PageRanks' loops over the vectors in the workspace. Assumes nothing.
+use mathlib.Core.Path.{_≡_, refl, sym, ap, _∙_}
+use mathlib.Core.Bool.{Bool, true, false, cond}
+use mathlib.Core.List.{List, [], foldl}
+use Prim.Native.Nat.{ℕ, _+_, _*_, _-_, _≤_, _<_}
+use native.Mathlib.Nat.{zero-add}
+use native.Mathlib.Omega.{arith}
+use lib.ListN.{length, getD, set}
+use lib.Ieee.{Float, nan, binary64, add, sub, mul, div, lt}
+use Rattle.roots.specs.Absolute.{absOf}
+use Rattle.regions.specs.Region.{zeroF, listOf, part, Front, Frame, Filled, Copied}
+use Rattle.regions.proofs.Parts.{part-at, part-is, part-list, list-at}
+use Rattle.regions.proofs.Fronts.{front-none, front-then}
+use Rattle.regions.proofs.Frames.{frame-part, front-frame, frame-front, frame-none, frame-set, store-more, filled-part, copied-none, copied-more}
+use Rattle.graph.specs.Layout.{entriesAt, besideAt, outWeightsAt}
+use Rattle.lists.specs.Lists.{Share, sharesAt}
+use Rattle.lists.proofs.Reading.{shareIn, foldTo, walk-none, walk-more, walk-all}
+use Rattle.rounds.specs.Rounds.{after}
+use Rattle.rounds.specs.Vectors.{entry, currentIn, nextIn, Vectors}
+use Rattle.rounds.proofs.Rounds.{after-none, after-more}
+use Rattle.rounds.proofs.Vectors.{current-at, next-at, next-set, vectors-then, vectors-are}
+use Rattle.pagerank.specs.declared.Turn.{Turn}
+use Rattle.pagerank.specs.Links.{Links, linksIn, outsIn, gives, distributes, withChange, absoluteChange, dividedAt}
+use Rattle.pagerank.specs.PageRank.{dangles, withDangling, danglingSum}
+use Rattle.pagerank.specs.Steps.{Advanced, Divided}
+
+-- both vectors as they are
+pub vectors-none : (n : ℕ) (w : List Float) {y : List Float} → nextIn n w ≡ y → Vectors n w (currentIn n w) y w
+vectors-none n w e = record { front = front-none w (n + n); current = refl; next = e }
+
+-- ---- `give`
+module _ (n m : ℕ) (weight : List Float) (w : List ℕ) (v : ℕ) (c : Float) (wf₀ : List Float) where
+  -- the next vector after the entries before the jth place
+  abbrev pub givenTo : ℕ → List Float
+  givenTo j = foldTo n m weight w v (gives c) (nextIn n wf₀) j
+
+  pub give-none : Vectors n wf₀ (currentIn n wf₀) (givenTo (getD w v 0)) wf₀
+  give-none = vectors-none n wf₀ (walk-none n m weight w v (gives c) (nextIn n wf₀))
+
+  pub give-more : (j : ℕ) (wf : List Float) → n + n ≤ length wf₀ → getD w v 0 ≤ j → getD w (entriesAt n + j) 0 < n
+      → Vectors n wf₀ (currentIn n wf₀) (givenTo j) wf
+      → Vectors n wf₀ (currentIn n wf₀) (givenTo (j + 1))
+      (set wf (n + getD w (entriesAt n + j) 0) (add binary64 (getD wf (n + getD w (entriesAt n + j) 0) nan) (mul binary64 c (getD weight (getD w (besideAt n m + j) 0) nan))))
+  give-more j wf room l inside s =
+      let t = getD w (entriesAt n + j) 0 in
+      let x = mul binary64 c (getD weight (getD w (besideAt n m + j) 0) nan) in
+      vectors-then s
+      (vectors-are (s .current)
+      (ap (λ (a : Float). set (nextIn n wf) t (add binary64 a x)) (next-at n wf t inside)
+      ∙ walk-more n m weight w v (gives c) (nextIn n wf₀) j (nextIn n wf) l (s .next))
+      (next-set n wf t (add binary64 (getD wf (n + t) nan) x) (omega (arith, s .front .long)) inside))
+
+  pub give-done : (j : ℕ) (wf : List Float) → j ≡ getD w (v + 1) 0 → Vectors n wf₀ (currentIn n wf₀) (givenTo j) wf
+      → Vectors n wf₀ (currentIn n wf₀) (foldl (gives c) (nextIn n wf₀) (sharesAt n m weight w v)) wf
+  give-done j wf e s = vectors-are refl (walk-all n m weight w v (gives c) (nextIn n wf₀) j e) s
+
+-- ---- what a round reads is kept while it writes
+module _ (n m : ℕ) (weight : List Float) (w : List ℕ) {wf wf′ : List Float} (room : 4 * n ≤ length wf) (front : Front wf (n + n) wf′) where
+  pub region-kept : (b : ℕ) → n + n ≤ b → b + n ≤ 4 * n → part wf′ b n ≡ part wf b n
+  region-kept b l h = frame-part nan b n (front-frame front) (omega arith) (λ i k p q. omega arith)
+
+  pub outs-kept : outsIn n wf′ ≡ outsIn n wf
+  outs-kept = region-kept (2 * n) (omega arith) (omega arith)
+
+  pub links-kept : linksIn n m weight w wf′ ≡ linksIn n m weight w wf
+  links-kept = ap (λ (o : List Float). record { nodes = n; outs = o; shares = listOf (sharesAt n m weight w) n }) outs-kept
+
+pub out-at : (n : ℕ) (wf : List Float) (v : ℕ) → v < n → getD wf (2 * n + v) nan ≡ entry (outsIn n wf) v
+out-at n wf v l = sym (part-at wf (2 * n) n nan v l)
+
+-- what `give` did for a node that distributes
+module _ (n m : ℕ) (weight : List Float) (w : List ℕ) (d : Float) (v : ℕ) (wf : List Float) (l : v < n) where
+  pub distributed : {wf′ : List Float}
+      → Vectors n wf (currentIn n wf) (foldl (gives (div binary64 (mul binary64 d (getD wf v nan)) (getD wf (2 * n + v) nan))) (nextIn n wf) (sharesAt n m weight w v)) wf′
+      → Vectors n wf (currentIn n wf) (distributes (linksIn n m weight w wf) d (currentIn n wf) v (nextIn n wf)) wf′
+  unfolding distributes
+  distributed s =
+      vectors-are refl
+      (ap (λ (x : Float). foldl (gives (div binary64 (mul binary64 d x) (getD wf (2 * n + v) nan))) (nextIn n wf) (sharesAt n m weight w v)) (current-at n wf v l)
+      ∙ ap (λ (o : Float). foldl (gives (div binary64 (mul binary64 d (entry (currentIn n wf) v)) o)) (nextIn n wf) (sharesAt n m weight w v)) (out-at n wf v l)
+      ∙ ap (λ (shares : List Share). foldl (gives (div binary64 (mul binary64 d (entry (currentIn n wf) v)) (entry (outsIn n wf) v))) (nextIn n wf) shares) (sym (list-at (sharesAt n m weight w) n [] v l)))
+      s
+
+-- ---- a loop over the nodes that changes the next vector
+module _ (n : ℕ) (turn : ℕ → List Float → List Float) (wf₀ : List Float) where
+  pub nodes-none : Vectors n wf₀ (currentIn n wf₀) (after turn 0 (nextIn n wf₀)) wf₀
+  nodes-none = vectors-none n wf₀ (after-none turn (nextIn n wf₀))
+
+  -- one node: y is what it makes of the next vector
+  pub nodes-more : {v : ℕ} {wf wf′ x y : List Float} → Vectors n wf₀ (currentIn n wf₀) (after turn v (nextIn n wf₀)) wf → Vectors n wf x y wf′
+      → x ≡ currentIn n wf → y ≡ turn v (nextIn n wf) → Vectors n wf₀ (currentIn n wf₀) (after turn (v + 1) (nextIn n wf₀)) wf′
+  nodes-more {v} {wf} s t ex ey =
+      vectors-then s (vectors-are (ex ∙ s .current) (ey ∙ after-more turn v (nextIn n wf₀) (nextIn n wf) (s .next)) t)
+
+  pub nodes-done : {v : ℕ} {wf : List Float} → v ≡ n → Vectors n wf₀ (currentIn n wf₀) (after turn v (nextIn n wf₀)) wf → Vectors n wf₀ (currentIn n wf₀) (after turn n (nextIn n wf₀)) wf
+  nodes-done e s = vectors-are refl (ap (λ (k : ℕ). after turn k (nextIn n wf₀)) e) s
+
+-- ---- `advance`
+-- after i nodes
+pub record Advancing (n : ℕ) (wf₀ : List Float) (i : ℕ) (change dangling : Float) (wf : List Float) : Type 0 where
+  pub copied : Copied wf₀ n wf₀ 0 i wf
+  pub change-is : change ≡ after (withChange (currentIn n wf₀) (nextIn n wf₀)) i zeroF
+  pub dangling-is : dangling ≡ after (withDangling (outsIn n wf₀) (nextIn n wf₀)) i zeroF
+
+module _ (n : ℕ) (wf₀ : List Float) (room : 4 * n ≤ length wf₀) where
+  pub advancing-none : Advancing n wf₀ 0 zeroF zeroF wf₀
+  advancing-none =
+      record {
+        copied = copied-none wf₀ n wf₀ 0;
+        change-is = after-none (withChange (currentIn n wf₀) (nextIn n wf₀)) zeroF;
+        dangling-is = after-none (withDangling (outsIn n wf₀) (nextIn n wf₀)) zeroF;
+      }
+
+  module _ (i : ℕ) (change dangling : Float) (wf : List Float) (l : i < n) (s : Advancing n wf₀ i change dangling wf) where
+    left : (j : ℕ) → i ≤ j → getD wf j nan ≡ getD wf₀ j nan
+    left j h = s .copied .frame .rest nan j (λ p q. omega arith)
+
+    x-is : getD wf i nan ≡ entry (currentIn n wf₀) i
+    x-is = left i (omega arith) ∙ current-at n wf₀ i l
+
+    y-is : getD wf (n + i) nan ≡ entry (nextIn n wf₀) i
+    y-is = left (n + i) (omega arith) ∙ next-at n wf₀ i l
+
+    out-is : getD wf (2 * n + i) nan ≡ entry (outsIn n wf₀) i
+    out-is = left (2 * n + i) (omega arith) ∙ out-at n wf₀ i l
+
+    pub advancing-more : {a b : Float} → a ≡ absOf (sub binary64 (getD wf i nan) (getD wf (n + i) nan)) → b ≡ dangles (getD wf (2 * n + i) nan) (getD wf (n + i) nan) dangling
+        → Advancing n wf₀ (i + 1) (add binary64 change a) b (set wf i (getD wf (n + i) nan))
+    advancing-more {a} {b} ea eb =
+        record {
+          copied = rw (zero-add i) at (copied-more nan (getD wf (n + i) nan) (s .copied) (omega arith) (omega arith) (left (n + i) (omega arith)));
+          change-is =
+              ap (λ (z : Float). add binary64 change z) (ea ∙ ap (λ (z : Float). absOf (sub binary64 z (getD wf (n + i) nan))) x-is ∙ ap (λ (z : Float). absOf (sub binary64 (entry (currentIn n wf₀) i) z)) y-is)
+              ∙ after-more (withChange (currentIn n wf₀) (nextIn n wf₀)) i zeroF change (s .change-is);
+          dangling-is =
+              eb
+              ∙ ap (λ (z : Float). dangles z (getD wf (n + i) nan) dangling) out-is
+              ∙ ap (λ (z : Float). dangles (entry (outsIn n wf₀) i) z dangling) y-is
+              ∙ after-more (withDangling (outsIn n wf₀) (nextIn n wf₀)) i zeroF dangling (s .dangling-is);
+        }
+
+  pub advancing-done : (i : ℕ) (change dangling : Float) (wf : List Float) → i ≡ n → Advancing n wf₀ i change dangling wf → Advanced n (outsIn n wf₀) wf₀ (record { change = change; dangling = dangling }) wf
+  unfolding absoluteChange danglingSum
+  advancing-done i change dangling wf e s =
+      record {
+        front = frame-front (n + n) (omega arith) (s .copied .frame);
+        current = part-is nan wf 0 n (λ k. getD wf₀ (n + k) nan) (omega (arith, s .copied .frame .long)) (λ k h. s .copied .at nan k (omega arith)) ∙ part-list nan wf₀ n n (omega arith);
+        change = s .change-is ∙ ap (λ (k : ℕ). after (withChange (currentIn n wf₀) (nextIn n wf₀)) k zeroF) e;
+        dangling = s .dangling-is ∙ ap (λ (k : ℕ). after (withDangling (outsIn n wf₀) (nextIn n wf₀)) k zeroF) e;
+      }
+
+-- ---- `divide`
+-- after i nodes
+pub record Dividing (n base : ℕ) (f : ℕ → Float) (wf₀ : List Float) (i : ℕ) (wf : List Float) : Type 0 where
+  pub frame : Frame wf₀ base n wf
+  pub at : (k : ℕ) → k < i → getD wf (base + k) nan ≡ f k
+
+module _ (n base : ℕ) (f : ℕ → Float) (wf₀ : List Float) (room : base + n ≤ length wf₀) where
+  pub dividing-none : Dividing n base f wf₀ 0 wf₀
+  dividing-none = record { frame = frame-none wf₀ base n; at = λ k h. absurd (omega arith) }
+
+  pub dividing-more : (i : ℕ) (wf : List Float) {a : Float} → i < n → a ≡ f i → Dividing n base f wf₀ i wf → Dividing n base f wf₀ (i + 1) (set wf (base + i) a)
+  dividing-more i wf {a} l e s =
+      record {
+        frame = frame-set (base + i) a (s .frame) (omega arith) (omega arith);
+        at = store-more (λ k z. z ≡ f k) nan wf base i a (omega (arith, s .frame .long)) (s .at) e;
+      }
+
+  pub dividing-done : (i : ℕ) (wf : List Float) → i ≡ n → Dividing n base f wf₀ i wf → Divided n (listOf f n) base wf₀ wf
+  dividing-done i wf e s = record { frame = s .frame; there = part-is nan wf base n f (omega (arith, s .frame .long)) (λ k h. s .at k (omega arith)) }

@@ -1,0 +1,16 @@
+-- `pagerank::with_dangling` meets its contract. Assumes nothing.
+use lib.Ieee.{ofBits}
+use borrow.Author.Needs.{needs}
+use Rattle.pagerank.proofs.with_dangling.Statement.{statement}
+use Rattle.pagerank.proofs.with_dangling.Tie as tie
+
+returns : tie.Need-returns
+unfolding ofBits
+returns c = rw (c .if1 .taken)
+
+returns-2 : tie.Need-returns-2
+unfolding ofBits
+returns-2 c = rw (c .if1 .left)
+
+pub with-dangling-spec : {M : Type 1} → statement M
+with-dangling-spec = tie.close (tie.spec returns returns-2)

@@ -1,0 +1,66 @@
+-- What the steps of the PageRanks promise each other. Definitions only.
+use mathlib.Core.Path.{_≡_}
+use mathlib.Core.Bool.{Bool, true}
+use mathlib.Core.List.{List}
+use Prim.Native.Nat.{ℕ, _+_, _*_, _≤_, _<_}
+use lib.ListN.{length}
+use lib.Ieee.{Float}
+use Rattle.regions.specs.Region.{Front, Frame, part, over, cleared, zeroF}
+use Rattle.graph.specs.declared.Rounds.{Rounds}
+use Rattle.graph.specs.declared.Fronts.{Fronts}
+use Rattle.graph.specs.Answers.{Said, done}
+use Rattle.graph.specs.Edges.{edgesOf}
+use Rattle.graph.specs.Pres.{Sound}
+use Rattle.graph.specs.Left.{Left, left}
+use Rattle.lists.specs.Lists.{ListsFit, listsFront}
+use Rattle.rounds.specs.Vectors.{currentIn, nextIn}
+use Rattle.pagerank.specs.declared.Turn.{Turn}
+use Rattle.pagerank.specs.Links.{linksOf, linksIn, absoluteChange}
+use Rattle.pagerank.specs.PageRank.{danglingSum}
+
+-- the weighted lists of n nodes and m edges, their weights, and room for the four vectors of floats
+pub record LinksPre (n m : ℕ) (weight : List Float) (w : List ℕ) (wf : List Float) : Type 0 where
+  pub fit : ListsFit n m w
+  pub weights : length weight ≡ m
+  pub room : 4 * n ≤ length wf
+
+-- a sound graph, and room for its lists and for the four vectors
+pub record PreparePre (n : ℕ) (from to : List ℕ) (weight : List Float) (w32 : List ℕ) (wf : List Float) : Type 0 where
+  pub sound : Sound n from to weight
+  pub narrow : listsFront n (length from) ≤ length w32
+  pub floats : 4 * n ≤ length wf
+
+-- what a round reads in the workspace is what it reads of the graph; only the lists and the out-weights were written
+pub record Prepared (n : ℕ) (directed : Bool) (from to : List ℕ) (weight : List Float) (w32 w32′ : List ℕ) (wf wf′ : List Float) : Type 0 where
+  pub narrow : Front w32 (listsFront n (length from)) w32′
+  pub floats : Front wf (4 * n) wf′
+  pub links : linksIn n (length from) weight w32′ wf′ ≡ linksOf (record { nodes = n; directed = directed; edges = edgesOf from to weight })
+  pub pre : LinksPre n (length from) weight w32′ wf′
+
+-- DONE with r, the vector x over the scores, and these fronts of the workspace cleared
+abbrev pub writtenBy : Fronts → Rounds → List Float → List Float → List ℕ → List ℕ → List Float → Left (Said Rounds) (List Float)
+writtenBy f r x scores w32 w64 wf = left (done r) (over x scores) (cleared 0 (f .narrow) w32) (cleared 0 (f .wide) w64) (cleared zeroF (f .floats) wf)
+
+-- a vector that counts has n entries, and n places from base lie in the workspace
+pub record DividePre (n : ℕ) (flag : Bool) (xs : List Float) (base : ℕ) (wf : List Float) : Type 0 where
+  pub long : flag ≡ true → length xs ≡ n
+  pub room : base + n ≤ length wf
+
+-- the divided vector stands at base, every other place is as it was
+pub record Divided (n : ℕ) (values : List Float) (base : ℕ) (wf wf′ : List Float) : Type 0 where
+  pub frame : Frame wf base n wf′
+  pub there : part wf′ base n ≡ values
+
+-- the next vector became the current one, beside it still the next; t has the change, and the dangling sum of that vector
+pub record Advanced (n : ℕ) (outs : List Float) (wf : List Float) (t : Turn) (wf′ : List Float) : Type 0 where
+  pub front : Front wf (n + n) wf′
+  pub current : currentIn n wf′ ≡ nextIn n wf
+  pub change : t .change ≡ absoluteChange n (currentIn n wf) (nextIn n wf)
+  pub dangling : t .dangling ≡ danglingSum n outs (nextIn n wf)
+
+-- a round was done; t has the change, and the dangling sum of what it made
+pub record RoundDone (n : ℕ) (outs : List Float) (next : List Float → List Float) (wf : List Float) (t : Turn) (wf′ : List Float) : Type 0 where
+  pub front : Front wf (n + n) wf′
+  pub current : currentIn n wf′ ≡ next (currentIn n wf)
+  pub change : t .change ≡ absoluteChange n (currentIn n wf) (currentIn n wf′)
+  pub dangling : t .dangling ≡ danglingSum n outs (currentIn n wf′)

@@ -1,0 +1,350 @@
+// PageRank, and in its own module personalized PageRank: scores that nodes pass on along their weighted lists, round by round.
+use graph::Ended;
+use graph::Refusal;
+use graph::Rounds;
+use graph::Settings;
+use rounds::Own;
+ghost use mathlib.Core.Path.{_≡_};
+ghost use mathlib.Core.Bool.{cond, true};
+ghost use mathlib.Core.List.{foldl};
+ghost use Prim.Native.Nat.{_+_, _*_, _<_, _≤_};
+ghost use lib.Dec.{eqb};
+ghost use lib.ListN.{length};
+ghost use Rattle.regions.specs.Region.{listOf};
+ghost use Rattle.graph.specs.Answers.{saidEnded};
+ghost use Rattle.graph.specs.Given.{given as lent};
+ghost use Rattle.graph.specs.Fronts.{usualFronts};
+ghost use Rattle.graph.specs.Pres.{Limits};
+ghost use Rattle.graph.specs.Left.{left};
+ghost use Rattle.rounds.specs.Ending.{WritePre};
+ghost use Rattle.rounds.specs.Steps.{RoundsDone};
+ghost use Rattle.lists.specs.Lists.{sharesAt};
+ghost use Rattle.rounds.specs.Rounds.{after, outcome, outcomeFrom};
+ghost use Rattle.rounds.specs.Vectors.{entry, currentIn, nextIn, Vectors};
+ghost use Rattle.pagerank.specs.Links.{linksIn, outsIn, one, gives, sumOf, divisorOf, dividedAt};
+ghost use Rattle.pagerank.specs.PageRank.{dangles, danglingSum, pagerankNode, pagerankNext, pagerankStep, startWrong, pagerankOutcome};
+ghost use Rattle.pagerank.specs.Steps.{LinksPre, PreparePre, Prepared, writtenBy, DividePre, Divided, Advanced, RoundDone};
+
+// The sum below which a start is refused.
+const TINY: f64 = 0.000000001;
+
+// What a round leaves for the next: the summed absolute change, and the dangling sum of the vector it made.
+pub struct Turn {
+    pub change: f64,
+    pub dangling: f64,
+}
+
+// From 1/n for each node, or from the given start divided by its sum.
+// Refuses SIZE, NODE, NUMBER, LENGTH, START, ROOM, in this order. Running out of rounds is DONE, not settled.
+pub fn pagerank(
+    nodes: usize,
+    directed: bool,
+    from: &[u32],
+    to: &[u32],
+    weight: &[f64],
+    settings: Settings,
+    given: bool,
+    start: &[f64],
+    scores: &mut [f64],
+    w32: &mut [u32],
+    w64: &mut [u64],
+    wf: &mut [f64],
+) -> Ended
+    ensures { λ r. ⌜ left (saidEnded r) (now (scores .exit)) (now (w32 .exit)) (now (w64 .exit)) (now (wf .exit)) ≡ pagerankOutcome settings given (now (start .entry)) (lent nodes directed (now (from .entry)) (now (to .entry)) (now (weight .entry)) (now (scores .entry)) (now (w32 .entry)) (now (w64 .entry)) (now (wf .entry))) ⌝ }
+{
+    let sum = divisor(given, start, nodes);
+    let own = Own {
+        number: rounds::reads_wrong(weight, settings.damping, settings.tolerance, given, start),
+        damping: false,
+        rounds: false,
+        lengths: rounds::length_wrong(given, start.len(), nodes),
+        start: start_wrong(given, nodes, sum),
+    };
+    let answer = rounds::refusal(
+        nodes,
+        from,
+        to,
+        weight,
+        false,
+        own,
+        scores.len() < nodes,
+        w32.len(),
+        w64.len(),
+        wf.len(),
+    );
+    if graph::refuses(answer) {
+        return Ended::Refused(Refusal { answer });
+    }
+    prepare(nodes, directed, from, to, weight, w32, wf);
+    divide(nodes, given, start, sum, 0, wf);
+    let ended = run(nodes, from.len(), weight, settings, w32, wf);
+    write(nodes, from.len(), ended, scores, w32, w64, wf)
+}
+
+// Builds the weighted lists, and the out-weights from them.
+fn prepare(
+    nodes: usize,
+    directed: bool,
+    from: &[u32],
+    to: &[u32],
+    weight: &[f64],
+    w32: &mut [u32],
+    wf: &mut [f64],
+)
+    requires { ⌜ PreparePre nodes (now from) (now to) (now weight) (now w32) (now wf) ⌝ }
+    ensures { λ _. ⌜ Prepared nodes directed (now (from .entry)) (now (to .entry)) (now (weight .entry)) (now (w32 .entry)) (now (w32 .exit)) (now (wf .entry)) (now (wf .exit)) ⌝ }
+{
+    lists::build_lists(nodes, directed, from, to, weight, w32);
+    lists::out_weights(nodes, from.len(), weight, w32, wf);
+}
+
+// The current vector as scores; wipes the workspace.
+fn write(
+    nodes: usize,
+    edges: usize,
+    ended: Rounds,
+    scores: &mut [f64],
+    w32: &mut [u32],
+    w64: &mut [u64],
+    wf: &mut [f64],
+) -> Ended
+    requires { ⌜ Limits nodes edges × WritePre nodes (usualFronts nodes edges) (now scores) (now w32) (now w64) (now wf) ⌝ }
+    ensures { λ r. ⌜ left (saidEnded r) (now (scores .exit)) (now (w32 .exit)) (now (w64 .exit)) (now (wf .exit)) ≡ writtenBy (usualFronts nodes edges) ended (currentIn nodes (now (wf .entry))) (now (scores .entry)) (now (w32 .entry)) (now (w64 .entry)) (now (wf .entry)) ⌝ }
+{
+    let front = graph::usual_fronts(nodes, edges);
+    regions::copy_outf(wf, 0, nodes, scores);
+    graph::wipe(front, w32, w64, wf);
+    Ended::Done(ended)
+}
+
+// The rounds; no nodes is a stop rule met before the first of them.
+fn run(
+    nodes: usize,
+    edges: usize,
+    weight: &[f64],
+    settings: Settings,
+    w: &[u32],
+    wf: &mut [f64],
+) -> Rounds
+    requires { ⌜ LinksPre nodes edges (now weight) (now w) (now wf) ⌝ }
+    ensures { λ r. ⌜ RoundsDone nodes settings (outcome (eqb nodes 0) (pagerankStep (linksIn nodes edges (now (weight .entry)) (now (w .entry)) (now (wf .entry))) (settings .damping) (settings .tolerance)) (settings .limit) (currentIn nodes (now (wf .entry)))) (now (wf .entry)) r (now (wf .exit)) ⌝ }
+{
+    if nodes == 0 {
+        return Rounds {
+            settings,
+            rounds: 0,
+            settled: true,
+        };
+    }
+    run_on(nodes, edges, weight, settings, w, wf)
+}
+
+// Rounds until one meets the stop rule, or all are used.
+fn run_on(
+    nodes: usize,
+    edges: usize,
+    weight: &[f64],
+    settings: Settings,
+    w: &[u32],
+    wf: &mut [f64],
+) -> Rounds
+    requires { ⌜ LinksPre nodes edges (now weight) (now w) (now wf) ⌝ }
+    ensures { λ r. ⌜ RoundsDone nodes settings (outcomeFrom (pagerankStep (linksIn nodes edges (now (weight .entry)) (now (w .entry)) (now (wf .entry))) (settings .damping) (settings .tolerance)) (settings .limit) 0 (currentIn nodes (now (wf .entry)))) (now (wf .entry)) r (now (wf .exit)) ⌝ }
+{
+    let damping = settings.damping;
+    let limit = settings.limit;
+    let bound = settings.tolerance * std::num::nearest_u64_to_f64(nodes as u64);
+    let mut dangling = dangling_sum(nodes, wf);
+    let mut k = 0u64;
+    while k < limit {
+        let turn = round(nodes, edges, weight, damping, dangling, w, wf);
+        k += 1;
+        if turn.change < bound {
+            return Rounds {
+                settings,
+                rounds: k,
+                settled: true,
+            };
+        }
+        dangling = turn.dangling;
+    }
+    Rounds {
+        settings,
+        rounds: k,
+        settled: false,
+    }
+}
+
+// One round, from the dangling sum of the current vector.
+fn round(
+    nodes: usize,
+    edges: usize,
+    weight: &[f64],
+    damping: f64,
+    dangling: f64,
+    w: &[u32],
+    wf: &mut [f64],
+) -> Turn
+    requires { ⌜ LinksPre nodes edges (now weight) (now w) (now wf) × (dangling ≡ danglingSum nodes (outsIn nodes (now wf)) (currentIn nodes (now wf))) ⌝ }
+    ensures { λ r. ⌜ RoundDone nodes (outsIn nodes (now (wf .entry))) (pagerankNext (linksIn nodes edges (now (weight .entry)) (now (w .entry)) (now (wf .entry))) damping) (now (wf .entry)) r (now (wf .exit)) ⌝ }
+{
+    let n = std::num::nearest_u64_to_f64(nodes as u64);
+    let base = (1.0 - damping) / n + dangling * (damping / n);
+    regions::fillf(wf, nodes, nodes, base);
+    spread(nodes, edges, weight, damping, w, wf);
+    advance(nodes, wf)
+}
+
+// Each node in order gives along its list.
+fn spread(nodes: usize, edges: usize, weight: &[f64], damping: f64, w: &[u32], wf: &mut [f64])
+    requires { ⌜ LinksPre nodes edges (now weight) (now w) (now wf) ⌝ }
+    ensures { λ _. ⌜ Vectors nodes (now (wf .entry)) (currentIn nodes (now (wf .entry))) (after (pagerankNode (linksIn nodes edges (now (weight .entry)) (now (w .entry)) (now (wf .entry))) damping (currentIn nodes (now (wf .entry)))) nodes (nextIn nodes (now (wf .entry)))) (now (wf .exit)) ⌝ }
+{
+    let mut v = 0;
+    while v < nodes {
+        spread_node(nodes, edges, weight, damping, w, v, wf);
+        v += 1;
+    }
+}
+
+// A node whose out-weight is above zero distributes its damped score by weight.
+fn spread_node(
+    nodes: usize,
+    edges: usize,
+    weight: &[f64],
+    damping: f64,
+    w: &[u32],
+    v: usize,
+    wf: &mut [f64],
+)
+    requires { ⌜ LinksPre nodes edges (now weight) (now w) (now wf) × (v < nodes) ⌝ }
+    ensures { λ _. ⌜ Vectors nodes (now (wf .entry)) (currentIn nodes (now (wf .entry))) (pagerankNode (linksIn nodes edges (now (weight .entry)) (now (w .entry)) (now (wf .entry))) damping (currentIn nodes (now (wf .entry))) v (nextIn nodes (now (wf .entry)))) (now (wf .exit)) ⌝ }
+{
+    let out = wf[2 * nodes + v];
+    if 0.0 < out {
+        give(nodes, edges, weight, damping * wf[v] / out, w, v, wf);
+        return;
+    }
+}
+
+// The targets of v's list gain contribution*weight, in the list's order.
+fn give(
+    nodes: usize,
+    edges: usize,
+    weight: &[f64],
+    contribution: f64,
+    w: &[u32],
+    v: usize,
+    wf: &mut [f64],
+)
+    requires { ⌜ LinksPre nodes edges (now weight) (now w) (now wf) × (v < nodes) ⌝ }
+    ensures { λ _. ⌜ Vectors nodes (now (wf .entry)) (currentIn nodes (now (wf .entry))) (foldl (gives contribution) (nextIn nodes (now (wf .entry))) (sharesAt nodes edges (now (weight .entry)) (now (w .entry)) v)) (now (wf .exit)) ⌝ }
+{
+    let entries = nodes + 1;
+    let beside = entries + 2 * edges;
+    let end = w[v + 1] as usize;
+    let mut k = w[v] as usize;
+    while k < end {
+        let at = nodes + w[entries + k] as usize;
+        wf[at] = wf[at] + contribution * weight[w[beside + k] as usize];
+        k += 1;
+    }
+}
+
+// The next vector becomes the current one. Gives the summed absolute change, and the dangling sum of that vector.
+fn advance(nodes: usize, wf: &mut [f64]) -> Turn
+    requires { ⌜ 4 * nodes ≤ length (now wf) ⌝ }
+    ensures { λ r. ⌜ Advanced nodes (outsIn nodes (now (wf .entry))) (now (wf .entry)) r (now (wf .exit)) ⌝ }
+{
+    let mut change = 0.0;
+    let mut dangling = 0.0;
+    let mut i = 0;
+    while i < nodes {
+        let next = wf[nodes + i];
+        change = change + roots::abs(wf[i] - next);
+        dangling = with_dangling(wf[2 * nodes + i], next, dangling);
+        wf[i] = next;
+        i += 1;
+    }
+    Turn { change, dangling }
+}
+
+// The dangling sum of the current vector.
+fn dangling_sum(nodes: usize, wf: &[f64]) -> f64
+    requires { ⌜ 4 * nodes ≤ length (now wf) ⌝ }
+    ensures { λ r. ⌜ r ≡ danglingSum nodes (outsIn nodes (now (wf .entry))) (currentIn nodes (now (wf .entry))) ⌝ }
+{
+    let mut dangling = 0.0;
+    let mut i = 0;
+    while i < nodes {
+        dangling = with_dangling(wf[2 * nodes + i], wf[i], dangling);
+        i += 1;
+    }
+    dangling
+}
+
+// A node whose out-weight is exactly zero adds its score.
+fn with_dangling(out: f64, x: f64, sum: f64) -> f64
+    ensures { λ r. ⌜ r ≡ dangles out x sum ⌝ }
+{
+    if out == 0.0 {
+        return sum + x;
+    }
+    sum
+}
+
+// START: there are nodes, and the sum of the given start is about zero.
+fn start_wrong(given: bool, nodes: usize, sum: f64) -> bool
+    ensures { λ r. ⌜ r ≡ startWrong given nodes sum ⌝ }
+{
+    if given {
+        if 0 < nodes {
+            return roots::abs(sum) < TINY;
+        }
+    }
+    false
+}
+
+// The sum of a vector that counts, else the number of nodes.
+fn divisor(counts: bool, vector: &[f64], nodes: usize) -> f64
+    ensures { λ r. ⌜ r ≡ divisorOf counts (now (vector .entry)) nodes ⌝ }
+{
+    if counts {
+        return total(vector);
+    }
+    std::num::nearest_u64_to_f64(nodes as u64)
+}
+
+fn total(vector: &[f64]) -> f64
+    ensures { λ r. ⌜ r ≡ sumOf (now (vector .entry)) ⌝ }
+{
+    let mut sum = 0.0;
+    let mut i = 0;
+    while i < vector.len() {
+        sum = sum + vector[i];
+        i += 1;
+    }
+    sum
+}
+
+// Each entry of a vector that counts, else 1, over the divisor.
+fn divide(nodes: usize, counts: bool, vector: &[f64], divisor: f64, base: usize, wf: &mut [f64])
+    requires { ⌜ DividePre nodes counts (now vector) base (now wf) ⌝ }
+    ensures { λ _. ⌜ Divided nodes (listOf (dividedAt counts (now (vector .entry)) divisor) nodes) base (now (wf .entry)) (now (wf .exit)) ⌝ }
+{
+    let mut i = 0;
+    while i < nodes {
+        wf[base + i] = numerator(counts, vector, i) / divisor;
+        i += 1;
+    }
+}
+
+fn numerator(counts: bool, vector: &[f64], i: usize) -> f64
+    requires { ⌜ (counts ≡ true → i < length (now vector)) ⌝ }
+    ensures { λ r. ⌜ r ≡ cond counts (entry (now (vector .entry)) i) one ⌝ }
+{
+    if counts {
+        return vector[i];
+    }
+    1.0
+}
