@@ -9,4 +9,6 @@ pub mod Reached
 pub mod Voting
 pub mod Polling
 pub mod Closing
+pub mod Order
+pub mod Rule
 pub mod Unique

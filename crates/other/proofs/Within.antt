@@ -19,7 +19,7 @@ use Rattle.hops.specs.Sum.{sumOver, below, onlyIf, same, times}
 use Rattle.hops.specs.Hops.{unreached, walks, dist, Valid}
 use Rattle.hops.specs.Search.{cells, graphOf, has, RowsOf, Space, Fresh, Begun, Search, Found}
 use Rattle.hops.proofs.Sums.{eq-or-ne, eqb-yes, eqb-no, same-yes, same-no, sum-add, sum-same, sum-times, sum-length, below-cong}
-use Rattle.hops.proofs.Dist.{Fewest, fewest-dist, dist-fewest}
+use Rattle.hops.proofs.Dist.{Fewest, Never, fewest-dist, dist-fewest, dist-cases}
 use Rattle.hops.proofs.Steps.{has-yes, has-no, queued}
 use Rattle.hops.proofs.Partial.{within, label-dist}
 use Rattle.hops.proofs.Search.{rows-after, getD-mem, mem-getD, queue-long, tail-most, node-lt, next-node, finish, first, begun-kept}
@@ -122,6 +122,16 @@ module _ {g : Graph} (ok : Valid g) {s : ℕ} (hs : s < g .nodes) (limit : ℕ) 
       go (inr n) =
           let b : onlyIf (not (eqb v s) && inReach g limit s v) 1 ≡ onlyIf (inReach g limit s v) 1 = ap (λ (b : Bool). onlyIf (not b && inReach g limit s v) 1) (eqb-no n) in
           omega (arith, b, same-no {x = s} {y = v} (λ z. n (sym z)))
+
+  -- with a limit of n or more every node counts that can be reached
+  pub no-limit : g .nodes ≤ limit → (v : ℕ) → inReach g limit s v ≡ not (eqb (dist g s v) unreached)
+  no-limit l v = go (dist-cases g (ok .inside) s v hs)
+    where
+      go : ((dist g s v < g .nodes) × Fewest g s v (dist g s v)) ⊎ ((dist g s v ≡ unreached) × Never g s v) → inReach g limit s v ≡ not (eqb (dist g s v) unreached)
+      go (inl r) =
+          let n : dist g s v ≢ unreached = λ e. omega (arith, r .0, ok .few) in
+          in-reach g limit s v n (omega (arith, r .0)) ∙ sym (ap not (eqb-no n))
+      go (inr r) = not-reached g limit s v (r .0) ∙ sym (ap not (eqb-yes (r .0)))
 
   pub one-more : {w : List ℕ} {D Q tail : ℕ} → Within g limit s w D Q tail → tail ≡ 1 + othersIn g limit s
   unfolding othersIn
