@@ -12,8 +12,11 @@ ghost use Rattle.graph.specs.Given.{given as lent};
 ghost use Rattle.graph.specs.Left.{left, inNumbers};
 ghost use Rattle.degree.specs.Degree.{degreeOutcome, inDegreeOutcome, outDegreeOutcome};
 ghost use Rattle.survey.specs.Survey.{results, surveyOutcome};
+ghost use Rattle.other.specs.Reaching.{reachingOutcome, globalOutcome};
 ghost use Rattle.other.specs.Laplacian.{laplacianOutcome};
 ghost use Rattle.other.specs.VoteRank.{voterankOutcome};
+ghost use Rattle.pagerank.specs.PageRank.{pagerankOutcome};
+ghost use Rattle.eigenvector.specs.Eigenvector.{eigenOutcome};
 ghost use Rattle.katz.specs.Katz.{katzOutcome};
 ghost use Rattle.meadowrut.specs.Boundary.{raised, asked, returned, reported, counted, voiced, asNumber};
 use graph::Answer;
@@ -152,6 +155,62 @@ pub extern "C" fn meadowrut_survey(
 }
 
 #[no_mangle]
+pub extern "C" fn meadowrut_local_reaching(
+    nodes: usize,
+    directed: u32,
+    from: &[u32],
+    to: &[u32],
+    weight: &[f64],
+    hops: u64,
+    scores: &mut [f64],
+    w32: &mut [u32],
+    w64: &mut [u64],
+    wf: &mut [f64],
+) -> u32
+    ensures { λ r. ⌜ left r (now (scores .exit)) (now (w32 .exit)) (now (w64 .exit)) (now (wf .exit)) ≡ inNumbers (reachingOutcome hops (given nodes (raised directed) (now (from .entry)) (now (to .entry)) (now (weight .entry)) (now (scores .entry)) (now (w32 .entry)) (now (w64 .entry)) (now (wf .entry)))) ⌝ }
+{
+    graph::plain_number(other::local_reaching(
+        nodes,
+        directed != 0,
+        from,
+        to,
+        weight,
+        hops,
+        scores,
+        w32,
+        w64,
+        wf,
+    ))
+}
+
+#[no_mangle]
+pub extern "C" fn meadowrut_global_reaching(
+    nodes: usize,
+    directed: u32,
+    from: &[u32],
+    to: &[u32],
+    weight: &[f64],
+    scores: &mut [f64],
+    w32: &mut [u32],
+    w64: &mut [u64],
+    wf: &mut [f64],
+) -> u32
+    ensures { λ r. ⌜ left r (now (scores .exit)) (now (w32 .exit)) (now (w64 .exit)) (now (wf .exit)) ≡ inNumbers (globalOutcome (given nodes (raised directed) (now (from .entry)) (now (to .entry)) (now (weight .entry)) (now (scores .entry)) (now (w32 .entry)) (now (w64 .entry)) (now (wf .entry)))) ⌝ }
+{
+    graph::plain_number(other::global_reaching(
+        nodes,
+        directed != 0,
+        from,
+        to,
+        weight,
+        scores,
+        w32,
+        w64,
+        wf,
+    ))
+}
+
+#[no_mangle]
 pub extern "C" fn meadowrut_laplacian(
     nodes: usize,
     directed: u32,
@@ -206,6 +265,72 @@ pub extern "C" fn meadowrut_voterank(
         wf,
     );
     election_of(said)
+}
+
+#[no_mangle]
+pub extern "C" fn meadowrut_pagerank(
+    nodes: usize,
+    directed: u32,
+    from: &[u32],
+    to: &[u32],
+    weight: &[f64],
+    settings: Settings,
+    given: u32,
+    start: &[f64],
+    scores: &mut [f64],
+    w32: &mut [u32],
+    w64: &mut [u64],
+    wf: &mut [f64],
+) -> Report
+    ensures { λ r. ⌜ left r (now (scores .exit)) (now (w32 .exit)) (now (w64 .exit)) (now (wf .exit)) ≡ voiced reported (pagerankOutcome (asked settings) (raised given) (now (start .entry)) (lent nodes (raised directed) (now (from .entry)) (now (to .entry)) (now (weight .entry)) (now (scores .entry)) (now (w32 .entry)) (now (w64 .entry)) (now (wf .entry)))) ⌝ }
+{
+    let asked = settings_of(settings);
+    let ended = pagerank::pagerank(
+        nodes,
+        directed != 0,
+        from,
+        to,
+        weight,
+        asked,
+        given != 0,
+        start,
+        scores,
+        w32,
+        w64,
+        wf,
+    );
+    report_of(ended)
+}
+
+#[no_mangle]
+pub extern "C" fn meadowrut_eigenvector(
+    nodes: usize,
+    directed: u32,
+    from: &[u32],
+    to: &[u32],
+    weight: &[f64],
+    settings: Settings,
+    scores: &mut [f64],
+    w32: &mut [u32],
+    w64: &mut [u64],
+    wf: &mut [f64],
+) -> Report
+    ensures { λ r. ⌜ left r (now (scores .exit)) (now (w32 .exit)) (now (w64 .exit)) (now (wf .exit)) ≡ voiced reported (eigenOutcome (asked settings) (lent nodes (raised directed) (now (from .entry)) (now (to .entry)) (now (weight .entry)) (now (scores .entry)) (now (w32 .entry)) (now (w64 .entry)) (now (wf .entry)))) ⌝ }
+{
+    let asked = settings_of(settings);
+    let ended = eigenvector::eigenvector(
+        nodes,
+        directed != 0,
+        from,
+        to,
+        weight,
+        asked,
+        scores,
+        w32,
+        w64,
+        wf,
+    );
+    report_of(ended)
 }
 
 #[no_mangle]
