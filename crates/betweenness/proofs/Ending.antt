@@ -1,0 +1,99 @@
+-- How `betweenness` ends: what its steps leave is the outcome. Assumes nothing.
+use mathlib.Core.Path.{_≡_, refl, sym, ap, _∙_, subst}
+use mathlib.Core.Logic.{_⊎_, inl, inr, ⊎-elim}
+use mathlib.Core.Bool.{Bool, true, false, cond}
+use mathlib.Core.List.{List, map}
+use Prim.Native.Nat.{ℕ, _+_, _*_, _≤_, _<_}
+use native.Mathlib.Omega.{arith}
+use borrow.Author.Tests.{ltb-false, eqb-false}
+use lib.Dec.{ltb}
+use lib.ListN.{length, getD}
+use lib.Ieee.{Float, nan}
+use Rattle.regions.specs.Region.{over, listOf, cleared, zeroF, Front}
+use Rattle.regions.proofs.Fronts.{cleared-afterD}
+use Rattle.graph.specs.declared.Answer.the-variants.{Paths}
+use Rattle.graph.specs.declared.Fronts.{Fronts}
+use Rattle.graph.specs.Answers.{Said, done, refusedWith}
+use Rattle.graph.specs.Edges.{edgesOf}
+use Rattle.graph.specs.Fronts.{usualFronts}
+use Rattle.graph.specs.Given.{Given, graphIn}
+use Rattle.graph.specs.Pres.{Passed, Ready, Roomy, Limits}
+use Rattle.graph.specs.Refusals.{Tests, firstRefusal}
+use Rattle.graph.specs.Left.{Left, left, wiped, lateRefusal, Wiped}
+use Rattle.graph.proofs.Refusals.{plainTests, plain-ready, plain-fits}
+use Rattle.graph.proofs.Left.{went-on}
+use Rattle.hops.specs.Hops.{pathLimit}
+use Rattle.hops.specs.Search.{graphOf}
+use Rattle.betweenness.specs.Betweenness.{scaled, scoresAfter, betweennessScores, someExceeds, betweennessOutcome}
+use Rattle.betweenness.specs.Starts.{Within, Still, Scored, StartsPre, StartsPost, PreparePre, Prepared, WritePre}
+use Rattle.betweenness.proofs.Adding.{within-then}
+use Rattle.betweenness.proofs.Scaling.{scaled-all}
+
+-- the rows of the table that can refuse
+abbrev pub scoreTests : Given (List Float) → Tests
+scoreTests g = plainTests g true false (ltb (length (g .results)) (g .nodes))
+
+module _ (g : Given (List Float)) (p : Passed (scoreTests g)) where
+  pub ready : Ready g
+  ready = plain-ready g true false (ltb (length (g .results)) (g .nodes)) p
+
+  fits : g .nodes ≤ length (g .results)
+  fits = ltb-false _ _ (plain-fits g true false (ltb (length (g .results)) (g .nodes)) p)
+
+  some : 0 < g .nodes
+  some = omega (arith, eqb-false (g .nodes) 0 (p .empty))
+
+  pub prepare-pre : PreparePre (g .nodes) (g .from) (g .to) (g .weight) (g .w32) (g .w64) (g .wf)
+  prepare-pre = record { sound = ready .sound; some = some; roomy = ready .roomy }
+
+  module _ {w1 c1 : List ℕ} {f1 : List Float} (A : Prepared (g .nodes) (g .directed) (g .from) (g .to) (g .weight) (g .w32) (g .w64) (g .wf) w1 c1 f1) where
+    pub starts-asks : StartsPre (g .nodes) (length (g .from)) w1 c1 f1
+    starts-asks = record { directed = g .directed; edges = edgesOf (g .from) (g .to) (g .weight); still = A .still; limits = ready .sound .limits }
+
+    module _ {w2 c2 : List ℕ} {f2 : List Float} {r : Bool} (B : StartsPost (g .nodes) (length (g .from)) w1 c1 f1 w2 c2 f2 r) where
+      within : Within (g .nodes) (length (g .from)) (g .w32) (g .w64) (g .wf) w2 c2 f2
+      within = within-then (A .within) (B .within)
+
+      pub wipe-pre : {fr : Fronts} → fr ≡ usualFronts (g .nodes) (length (g .from)) → Roomy fr (length w2) (length c2) (length f2)
+      wipe-pre e =
+          subst (λ (x : Fronts). Roomy x (length w2) (length c2) (length f2)) (sym e)
+          (record {
+            r32 = omega (arith, ready .roomy .r32, within .narrow .long);
+            r64 = omega (arith, ready .roomy .r64, within .wide .long);
+            rf = omega (arith, ready .roomy .rf, within .floats .long);
+          })
+
+      pub write-pre : WritePre (g .nodes) f2 (g .results)
+      write-pre = record { few = ready .sound .limits .nodes; held = omega (arith, ready .roomy .rf, within .floats .long); room = fits }
+
+      paths : someExceeds pathLimit (graphIn g) (g .nodes) ≡ r
+      paths = B .paths (g .directed) (edgesOf (g .from) (g .to) (g .weight)) (A .still)
+
+      module _ (normalized : Bool) {fr : Fronts} {w3 c3 : List ℕ} {f3 : List Float} (ef : fr ≡ usualFronts (g .nodes) (length (g .from))) (W : Wiped fr w2 c2 f2 w3 c3 f3) where
+        p32 : w3 ≡ cleared 0 (usualFronts (g .nodes) (length (g .from)) .narrow) (g .w32)
+        p32 = W .p32 ∙ ap (λ (x : Fronts). cleared 0 (x .narrow) w2) ef ∙ cleared-afterD 0 (within .narrow)
+
+        p64 : c3 ≡ cleared 0 (usualFronts (g .nodes) (length (g .from)) .wide) (g .w64)
+        p64 = W .p64 ∙ ap (λ (x : Fronts). cleared 0 (x .wide) c2) ef ∙ cleared-afterD 0 (within .wide)
+
+        pf : f3 ≡ cleared zeroF (usualFronts (g .nodes) (length (g .from)) .floats) (g .wf)
+        pf = W .pf ∙ ap (λ (x : Fronts). cleared zeroF (x .floats) f2) ef ∙ cleared-afterD zeroF (within .floats)
+
+        -- what was done, by whether a count was above the limit
+        did : Bool → Left (Said (Unit {0})) (List Float)
+        did b = cond b (lateRefusal g Paths) (wiped g (done (tt {0})) (over (betweennessScores normalized (graphIn g)) (g .results)))
+
+        pub ended-paths : r ≡ true → left {A = Said (Unit {0})} (refusedWith Paths) (g .results) w3 c3 f3 ≡ betweennessOutcome normalized g
+        unfolding betweennessOutcome did
+        ended-paths e =
+            let q : left {A = Said (Unit {0})} (refusedWith Paths) (g .results) w3 c3 f3 ≡ lateRefusal g Paths = cc (p32, p64, pf) in
+            q ∙ ap did (sym (paths ∙ e)) ∙ went-on g (scoreTests g) (did (someExceeds pathLimit (graphIn g) (g .nodes))) p
+
+        pub ended-done : r ≡ false → {scores : List Float} → scores ≡ over (listOf (λ v. scaled (g .nodes) (g .directed) normalized (getD f2 v nan)) (g .nodes)) (g .results)
+            → left {A = Said (Unit {0})} (done (tt {0})) scores w3 c3 f3 ≡ betweennessOutcome normalized g
+        unfolding betweennessOutcome did betweennessScores
+        ended-done e {scores} es =
+            let C : Scored (g .nodes) f2 (scoresAfter (graphIn g) (g .nodes)) = B .scored e (g .directed) (edgesOf (g .from) (g .to) (g .weight)) (A .still) (A .scored) in
+            let s : scores ≡ over (betweennessScores normalized (graphIn g)) (g .results) = es ∙ ap (λ (l : List Float). over l (g .results)) (scaled-all (scaled (g .nodes) (g .directed) normalized) C) in
+            let q : left {A = Said (Unit {0})} (done (tt {0})) scores w3 c3 f3 ≡ wiped g (done (tt {0})) (over (betweennessScores normalized (graphIn g)) (g .results)) = cc (p32, p64, pf, s) in
+            q ∙ ap did (sym (paths ∙ e)) ∙ went-on g (scoreTests g) (did (someExceeds pathLimit (graphIn g) (g .nodes))) p

@@ -1,0 +1,2 @@
+pub mod Betweenness
+pub mod Starts

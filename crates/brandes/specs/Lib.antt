@@ -1,0 +1,4 @@
+pub mod Order
+pub mod Shares
+pub mod Steps
+pub mod Tracks
