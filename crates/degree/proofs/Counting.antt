@@ -2,15 +2,15 @@
 use mathlib.Core.Path.{_≡_, refl, sym, ap, _∙_}
 use mathlib.Core.Bool.{Bool, true, false, _&&_, cond}
 use mathlib.Core.Logic.{⊎-elim}
-use mathlib.Core.List.{List, [], _∷_, foldl, foldl-append}
-use Prim.Native.Nat.{ℕ, zero, suc, _+_, _^_, _≤_, _<_}
+use mathlib.Core.List.{List, [], _∷_, _++_, foldl, foldl-append}
+use Prim.Native.Nat.{ℕ, zero, suc, _+_, _*_, _^_, _≤_, _<_}
 use native.Mathlib.Numerals.{add-one}
 use native.Mathlib.Omega.{arith}
 use borrow.Author.Tests.{eqb-true, eqb-false}
 use lib.Dec.{eqb}
 use lib.IntN.{pos}
 use lib.ListN.{length, getD, set, take, length-set}
-use lib.Seq.{take-suc, take-length}
+use lib.Seq.{take-suc, take-length, length-take-le}
 use lib.Ieee.{Float, binary64, nan, add, ofInt}
 use Rattle.regions.specs.Region.{Front, zeroF, cleared}
 use Rattle.regions.proofs.Cases.{bool-cases}
@@ -18,7 +18,7 @@ use Rattle.regions.proofs.Fronts.{front-none, front-set, front-then, hitD, miss
 use Rattle.graph.specs.Edges.{edgesFrom}
 use Rattle.graph.specs.Pres.{Sized}
 use Rattle.degree.specs.Degree.{one, endCount}
-use Rattle.degree.specs.Tally.{oneF, plusOne, tally, TallyPre}
+use Rattle.degree.specs.Tally.{oneF, plusOne, tally, inTurn, pairTally, TallyPre}
 use Rattle.degree.proofs.Exact.{one-more}
 
 -- how many of the ends are v
@@ -89,6 +89,52 @@ tally-more ends i w₀ w l e =
     (ap (λ (k : ℕ). foldl plusOne w₀ (take k ends)) (add-one i)
     ∙ ap (foldl plusOne w₀) (take-suc ends i 0 l)
     ∙ foldl-append plusOne w₀ (take i ends) (getD ends i 0 ∷ []))
+
+-- ---- both ends of an edge in turn
+in-turn-last : (fs ts : List ℕ) (f t : ℕ) → length ts ≡ length fs → inTurn (fs ++ (f ∷ [])) (ts ++ (t ∷ [])) ≡ inTurn fs ts ++ (f ∷ t ∷ [])
+unfolding inTurn
+in-turn-last [] [] f t e = refl
+in-turn-last [] (y ∷ ts) f t e = absurd (omega arith)
+in-turn-last (x ∷ fs) [] f t e = absurd (omega arith)
+in-turn-last (x ∷ fs) (y ∷ ts) f t e = ap (λ (l : List ℕ). x ∷ y ∷ l) (in-turn-last fs ts f t (omega arith))
+
+pub in-turn-count : (v : ℕ) (fs ts : List ℕ) → length ts ≡ length fs → countIn v (inTurn fs ts) ≡ countIn v fs + countIn v ts
+unfolding inTurn
+in-turn-count v [] [] e = refl
+in-turn-count v [] (y ∷ ts) e = absurd (omega arith)
+in-turn-count v (x ∷ fs) [] e = absurd (omega arith)
+in-turn-count v (x ∷ fs) (y ∷ ts) e = omega (arith, in-turn-count v fs ts (omega arith))
+
+pub in-turn-long : (fs ts : List ℕ) → length (inTurn fs ts) ≤ 2 * length fs
+unfolding inTurn
+in-turn-long [] ts = omega arith
+in-turn-long (x ∷ fs) [] = omega arith
+in-turn-long (x ∷ fs) (y ∷ ts) = omega (arith, in-turn-long fs ts)
+
+pub in-turn-inside : (n : ℕ) (fs ts : List ℕ) → ((i : ℕ) → i < length fs → getD fs i 0 < n) → ((i : ℕ) → i < length ts → getD ts i 0 < n) → (i : ℕ) → i < length (inTurn fs ts) → getD (inTurn fs ts) i 0 < n
+unfolding inTurn
+in-turn-inside n [] ts p q i l = absurd (omega arith)
+in-turn-inside n (x ∷ fs) [] p q i l = absurd (omega arith)
+in-turn-inside n (x ∷ fs) (y ∷ ts) p q zero l = p 0 (omega arith)
+in-turn-inside n (x ∷ fs) (y ∷ ts) p q (suc zero) l = q 0 (omega arith)
+in-turn-inside n (x ∷ fs) (y ∷ ts) p q (suc (suc i)) l = in-turn-inside n fs ts (λ j h. p (suc j) (omega arith)) (λ j h. q (suc j) (omega arith)) i (omega arith)
+
+pub pairs-none : (fs ts : List ℕ) (w : List Float) → w ≡ pairTally fs ts 0 w
+unfolding pairTally inTurn
+pairs-none fs ts w = refl
+
+pub pairs-more : (fs ts : List ℕ) (i : ℕ) (w₀ w : List Float) → i < length fs → i < length ts → w ≡ pairTally fs ts i w₀ → plusOne (plusOne w (getD fs i 0)) (getD ts i 0) ≡ pairTally fs ts (i + 1) w₀
+unfolding pairTally
+pairs-more fs ts i w₀ w lf lt e =
+    let a : length (take i fs) ≡ i = length-take-le i fs (omega arith) in
+    let b : length (take i ts) ≡ i = length-take-le i ts (omega arith) in
+    ap (λ (x : List Float). plusOne (plusOne x (getD fs i 0)) (getD ts i 0)) e
+    ∙ sym
+    (ap (λ (k : ℕ). foldl plusOne w₀ (inTurn (take k fs) (take k ts))) (add-one i)
+    ∙ ap (λ (l : List ℕ). foldl plusOne w₀ (inTurn l (take (suc i) ts))) (take-suc fs i 0 lf)
+    ∙ ap (λ (l : List ℕ). foldl plusOne w₀ (inTurn (take i fs ++ (getD fs i 0 ∷ [])) l)) (take-suc ts i 0 lt)
+    ∙ ap (foldl plusOne w₀) (in-turn-last (take i fs) (take i ts) (getD fs i 0) (getD ts i 0) (b ∙ sym a))
+    ∙ foldl-append plusOne w₀ (inTurn (take i fs) (take i ts)) (getD fs i 0 ∷ getD ts i 0 ∷ []))
 
 -- ---- the ends of the edges, list by list
 both-ends : (p q : Bool) (k : ℕ) (fs ts : List ℕ) (xs : List Float) (v : ℕ) → Sized fs ts xs → endCount p q (edgesFrom k fs ts xs) v ≡ countIn v (cond p fs []) + countIn v (cond q ts [])

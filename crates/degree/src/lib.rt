@@ -12,7 +12,7 @@ ghost use Rattle.graph.specs.Given.{given};
 ghost use Rattle.graph.specs.Left.{left};
 ghost use Rattle.graph.specs.Refusals.{firstRefusal, endsTests};
 ghost use Rattle.degree.specs.Degree.{endsOutcome, degreeOutcome, inDegreeOutcome, outDegreeOutcome};
-ghost use Rattle.degree.specs.Tally.{tally, TallyPre};
+ghost use Rattle.degree.specs.Tally.{tally, pairTally, TallyPre};
 
 // Both ends of every edge: a self-loop adds two.
 pub fn degree(
@@ -56,7 +56,7 @@ pub fn out_degree(
     count_ends(nodes, directed, true, !directed, from, to, weight, scores)
 }
 
-// `froms` and `tos` say which ends count.
+// `froms` and `tos` say which ends count. If both do, one walk adds both ends of each edge.
 fn count_ends(
     nodes: usize,
     directed: bool,
@@ -74,9 +74,11 @@ fn count_ends(
         return Plain::Refused(Refusal { answer });
     }
     let edges = from.len();
+    let pairs = counted(froms, counted(tos, edges));
     regions::wipef(scores, nodes);
-    add_ends(from, counted(froms, edges), scores);
-    add_ends(to, counted(tos, edges), scores);
+    add_pairs(from, to, pairs, scores);
+    add_ends(from, counted(froms, edges) - pairs, scores);
+    add_ends(to, counted(tos, edges) - pairs, scores);
     Plain::Done
 }
 
@@ -102,6 +104,21 @@ fn counted(count: bool, edges: usize) -> usize
         return edges;
     }
     0
+}
+
+// Adds one to the scores of both ends of each of the first `many` edges.
+fn add_pairs(from: &[u32], to: &[u32], many: usize, scores: &mut [f64])
+    requires { ⌜ TallyPre (now from) many (now scores) × TallyPre (now to) many (now scores) ⌝ }
+    ensures { λ _. ⌜ now (scores .exit) ≡ pairTally (now (from .entry)) (now (to .entry)) many (now (scores .entry)) ⌝ }
+{
+    let mut i = 0;
+    while i < many {
+        let f = from[i] as usize;
+        let t = to[i] as usize;
+        scores[f] = scores[f] + 1.0;
+        scores[t] = scores[t] + 1.0;
+        i += 1;
+    }
 }
 
 // Adds one to the score of each of the first `many` ends.
