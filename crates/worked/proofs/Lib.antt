@@ -1,3 +1,4 @@
+pub mod Betweenness
 pub mod Other
 pub mod PageRank
 pub mod Roots
