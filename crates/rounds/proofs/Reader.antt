@@ -30,6 +30,14 @@ pub record AllFinite (n : ℕ) (x : List Float) : Type 0 where
 no-values : {Values : Type 0} {k : ℕ} {v : Values} → refusal k ≡ done v → ⊥
 no-values e = let z : _≡_ {A = ℕ} 0 1 = cc in omega arith
 
+-- DONE: nothing refused
+pub not-refused : {R : Type 0} (g : Given R) (a : Answer) (did : Left (Said Rounds) R) {r : Rounds} → unlessRefused g a did .says ≡ done r → refuses a ≡ false
+not-refused {R} g a did {r} = by (refuses a)
+  where
+    by : (b : Bool) → cond b (untouched g (refusedWith a)) did .says ≡ done r → b ≡ false
+    by true e = absurd (no-values e)
+    by false e = refl
+
 module _ (g : Given (List Float)) (settings : Settings) (o : Out (List Float)) where
   -- DONE: the rounds settled, r is their report, and the last vector stands in front of the results
   pub done-settled : (a : Answer) {r : Rounds} → unlessRefused g a (settledOnly g settings o) .says ≡ done r
