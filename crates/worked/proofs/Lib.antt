@@ -4,3 +4,5 @@ pub mod PageRank
 pub mod Roots
 pub mod Survey
 pub mod Table
+pub mod Katz
+pub mod Eigenvector

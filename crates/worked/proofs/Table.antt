@@ -1,5 +1,6 @@
 -- Document 01's worked cases as one table: a row for each case, proved in the file of its layer. Assumes nothing.
 use Rattle.worked.proofs.Betweenness.{P2, p2, P3-betweenness, p3-betweenness}
+use Rattle.worked.proofs.Katz.{P7, p7}
 use Rattle.worked.proofs.Other.{P4-laplacian, p4-laplacian, P5, p5}
 use Rattle.worked.proofs.PageRank.{P6-pagerank, p6-pagerank}
 use Rattle.worked.proofs.Roots.{P8, p8}
@@ -13,6 +14,7 @@ pub record Table : Type 0 where
   pub laplacian-path : P4-laplacian
   pub self-loop : P5
   pub pagerank-edge : P6-pagerank
+  pub katz-arrow : P7
   pub roots : P8
 
 pub table : Table
@@ -25,5 +27,6 @@ table =
       laplacian-path = p4-laplacian;
       self-loop = p5;
       pagerank-edge = p6-pagerank;
+      katz-arrow = p7;
       roots = p8;
     }
