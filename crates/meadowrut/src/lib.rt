@@ -12,6 +12,7 @@ ghost use Rattle.graph.specs.Given.{given as lent};
 ghost use Rattle.graph.specs.Left.{left, inNumbers};
 ghost use Rattle.degree.specs.Degree.{degreeOutcome, inDegreeOutcome, outDegreeOutcome};
 ghost use Rattle.survey.specs.Survey.{results, surveyOutcome};
+ghost use Rattle.betweenness.specs.Betweenness.{betweennessOutcome};
 ghost use Rattle.other.specs.Reaching.{reachingOutcome, globalOutcome};
 ghost use Rattle.other.specs.Laplacian.{laplacianOutcome};
 ghost use Rattle.other.specs.VoteRank.{voterankOutcome};
@@ -148,6 +149,35 @@ pub extern "C" fn meadowrut_survey(
         start,
         distances,
         counts,
+        w32,
+        w64,
+        wf,
+    ))
+}
+
+#[no_mangle]
+pub extern "C" fn meadowrut_betweenness(
+    nodes: usize,
+    directed: u32,
+    from: &[u32],
+    to: &[u32],
+    weight: &[f64],
+    normalized: u32,
+    scores: &mut [f64],
+    w32: &mut [u32],
+    w64: &mut [u64],
+    wf: &mut [f64],
+) -> u32
+    ensures { λ r. ⌜ left r (now (scores .exit)) (now (w32 .exit)) (now (w64 .exit)) (now (wf .exit)) ≡ inNumbers (betweennessOutcome (raised normalized) (given nodes (raised directed) (now (from .entry)) (now (to .entry)) (now (weight .entry)) (now (scores .entry)) (now (w32 .entry)) (now (w64 .entry)) (now (wf .entry)))) ⌝ }
+{
+    graph::plain_number(betweenness::betweenness(
+        nodes,
+        directed != 0,
+        from,
+        to,
+        weight,
+        normalized != 0,
+        scores,
         w32,
         w64,
         wf,

@@ -1,0 +1,38 @@
+-- `meadowrut::meadowrut_betweenness` meets its contract, from those of the call and of the number. Assumes nothing.
+use Rattle.graph.proofs.Left.{in-numbers}
+use borrow.Author.Needs.{needs}
+use Rattle.meadowrut.proofs.meadowrut_betweenness.Statement.{statement}
+use Rattle.meadowrut.proofs.meadowrut_betweenness.Tie as tie
+
+betweenness-requires : tie.Need-betweenness-requires
+betweenness-requires c κs = search needs
+
+plain-number-requires : tie.Need-plain-number-requires
+plain-number-requires c κs = search needs
+
+same-length : tie.Need-same-length
+same-length c = search needs
+
+same-length-2 : tie.Need-same-length-2
+same-length-2 c = search needs
+
+same-length-3 : tie.Need-same-length-3
+same-length-3 c = search needs
+
+same-length-4 : tie.Need-same-length-4
+same-length-4 c = search needs
+
+returns : tie.Need-returns
+returns c = in-numbers (c .plain-number .ensures) (c .before .before .before .before .before .before .before .before .before .betweenness .ensures)
+
+pub meadowrut-betweenness-spec : {M : Type 1} → statement M
+meadowrut-betweenness-spec =
+    tie.close
+    (tie.spec
+    betweenness-requires
+    plain-number-requires
+    same-length
+    same-length-2
+    same-length-3
+    same-length-4
+    returns)
