@@ -1,0 +1,24 @@
+-- No second outcome meets the contract of `run`. Assumes nothing.
+use mathlib.Core.Path.{_≡_, refl, sym, ap, _∙_}
+use mathlib.Core.List.{List}
+use Prim.Native.Nat.{ℕ}
+use Rattle.graph.specs.declared.Answer.{Answer}
+use Rattle.graph.specs.Answers.{numberOf, Said, done, refusal}
+use Rattle.graph.proofs.Said.{number-names}
+use Rattle.job.specs.declared.Ran.{Ran}
+use Rattle.job.specs.declared.Ran.the-variants.{Written, Refused}
+use Rattle.job.specs.Run.{saidRan, RunLeft, runLeft, runOutcome}
+
+number-in : {j k : ℕ} → _≡_ {A = Said ℕ} (refusal j) (refusal k) → j ≡ k
+number-in e = cc
+
+ran-returned : (p q : Ran) → saidRan p ≡ saidRan q → p ≡ q
+ran-returned (Written j) (Written k) e = cc
+ran-returned (Written j) (Refused r) e = cc
+ran-returned (Refused r) (Written k) e = cc
+ran-returned (Refused r) (Refused s) e = ap (λ (a : Answer). Refused (record { answer = a })) (number-names (number-in e))
+
+pub run-unique : (input output : List ℕ) {r r′ : Ran} {o o′ : List ℕ} → runLeft (saidRan r) o ≡ runOutcome input output → runLeft (saidRan r′) o′ ≡ runOutcome input output → (r ≡ r′) × (o ≡ o′)
+run-unique input output {r} {r′} p q =
+    let e = p ∙ sym q in
+    (ran-returned r r′ (ap (λ (x : RunLeft). x .says) e), ap (λ (x : RunLeft). x .output) e)

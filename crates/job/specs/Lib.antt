@@ -1,0 +1,3 @@
+pub mod Scored
+pub mod Run
+pub mod Pres

@@ -1,0 +1,85 @@
+-- The program's whole work: the answer's text of any bytes, and what a call of `run` leaves.
+-- Definitions only. Document 01, "The command program".
+use mathlib.Core.Bool.{Bool, true, false, cond, _||_}
+use mathlib.Core.List.{List, [], map}
+use Prim.Native.Nat.{ℕ}
+use lib.Dec.{ltb}
+use lib.ListN.{length, replicate}
+use lib.Seq.{sets}
+use lib.Ieee.{Float, binary64, ofBits}
+use Rattle.regions.specs.Region.{zeroF}
+use Rattle.graph.specs.declared.Answer.the-variants.{Size, Room, Text}
+use Rattle.graph.specs.Answers.{Said, done, refusedWith, numberOf}
+use Rattle.graph.specs.Settings.{jobNodeLimit, jobEdgeLimit}
+use Rattle.reader.specs.declared.Head.{Head}
+use Rattle.reader.specs.declared.Job.{Job}
+use Rattle.reader.specs.declared.Job.the-variants.{Asked, Fault}
+use Rattle.reader.specs.Edges.{Given, fromOf, toOf, bitsOf}
+use Rattle.reader.specs.Job.{jobOf, edgesOf}
+use Rattle.reply.specs.Reply.{refusalText}
+use Rattle.job.specs.declared.Ran.{Ran}
+use Rattle.job.specs.declared.Ran.the-variants.{Written, Refused}
+use Rattle.job.specs.Scored.{Lent, lent, scoredText}
+
+-- the most bytes of a job text
+abbrev pub inputLimit : ℕ
+inputLimit = 49152
+
+-- the bytes that every answer has room in
+abbrev pub outputRoom : ℕ
+outputRoom = 32768
+
+-- the numbers of a workspace for the most nodes and edges: 8n+8m+8, 2n and 6n+4m
+abbrev pub narrowRoom : ℕ
+narrowRoom = 12296
+
+abbrev pub wideRoom : ℕ
+wideRoom = 1024
+
+abbrev pub floatRoom : ℕ
+floatRoom = 7168
+
+-- slots for the results and a workspace, all of them zero, beside a graph
+unfoldable pub onZeros : List ℕ → List ℕ → List Float → Lent
+onZeros from to weight =
+    lent from to weight (replicate jobNodeLimit zeroF) (replicate jobNodeLimit 0) (replicate narrowRoom 0) (replicate wideRoom 0) (replicate floatRoom zeroF)
+
+-- the double of each pattern
+abbrev pub doubles : List ℕ → List Float
+doubles bits = map (ofBits binary64) bits
+
+-- the text of a job without a fault, whose edges are given as ends and bits: SIZE above the program's limits, then the measure's
+unfoldable pub headAnswer : Head → List ℕ → List ℕ → List ℕ → List ℕ
+headAnswer head from to bits =
+    cond (ltb jobNodeLimit (head .top .nodes)) (refusalText (numberOf Size) 0)
+    (cond (ltb jobEdgeLimit (head .edges)) (refusalText (numberOf Size) 0)
+    (scoredText (head .measure) (head .top) (onZeros from to (doubles bits))))
+
+-- TEXT with the first faulty line, or the text of the job
+abbrev pub jobAnswer : Job → List Given → List ℕ
+jobAnswer (Asked head) edges = headAnswer head (map fromOf edges) (map toOf edges) (map bitsOf edges)
+jobAnswer (Fault line) edges = refusalText (numberOf Text) line
+
+-- the answer's text of any bytes: SIZE for too many of them before all else
+unfoldable pub answerOf : List ℕ → List ℕ
+answerOf input = cond (ltb inputLimit (length input)) (refusalText (numberOf Size) 0) (jobAnswer (jobOf input) (edgesOf input .given))
+
+-- what `run` says: how many bytes it wrote, or a refusal
+abbrev pub saidRan : Ran → Said ℕ
+saidRan (Written k) = done k
+saidRan (Refused r) = refusedWith (r .answer)
+
+-- what `run` leaves: what it says, and the output
+pub record RunLeft : Type 0 where
+  pub says : Said ℕ
+  pub output : List ℕ
+
+abbrev pub runLeft : Said ℕ → List ℕ → RunLeft
+runLeft says output = record { says = says; output = output }
+
+-- ROOM, with the output as it was, if the output is too short for any answer; else the answer's text at its beginning, and every byte after it as it was
+unfoldable pub runOutcome : List ℕ → List ℕ → RunLeft
+runOutcome input output =
+    cond (ltb (length output) outputRoom)
+    (runLeft (refusedWith Room) output)
+    (runLeft (done (length (answerOf input))) (sets output 0 (answerOf input)))
