@@ -1,3 +1,4 @@
 pub mod Links
 pub mod PageRank
+pub mod Personalized
 pub mod Steps

@@ -15,8 +15,9 @@ use Rattle.graph.specs.Left.{Left, left}
 use Rattle.lists.specs.Lists.{ListsFit, listsFront}
 use Rattle.rounds.specs.Vectors.{currentIn, nextIn}
 use Rattle.pagerank.specs.declared.Turn.{Turn}
-use Rattle.pagerank.specs.Links.{linksOf, linksIn, absoluteChange}
+use Rattle.pagerank.specs.Links.{linksOf, linksIn, outsIn, absoluteChange}
 use Rattle.pagerank.specs.PageRank.{danglingSum}
+use Rattle.pagerank.specs.Personalized.{personalIn}
 
 -- the weighted lists of n nodes and m edges, their weights, and room for the four vectors of floats
 pub record LinksPre (n m : ℕ) (weight : List Float) (w : List ℕ) (wf : List Float) : Type 0 where
@@ -64,3 +65,15 @@ pub record RoundDone (n : ℕ) (outs : List Float) (next : List Float → List F
   pub current : currentIn n wf′ ≡ next (currentIn n wf)
   pub change : t .change ≡ absoluteChange n (currentIn n wf) (currentIn n wf′)
   pub dangling : t .dangling ≡ danglingSum n outs (currentIn n wf′)
+
+-- a given vector has n entries, and the workspace has room for the four vectors
+pub record PersonalPre (n : ℕ) (flag : Bool) (xs wf : List Float) : Type 0 where
+  pub long : flag ≡ true → length xs ≡ n
+  pub room : 4 * n ≤ length wf
+
+-- the personalization p stands in its region and as the current vector; the out-weights are as they were
+pub record PersonalBegun (n : ℕ) (p wf wf′ : List Float) : Type 0 where
+  pub front : Front wf (4 * n) wf′
+  pub personal : personalIn n wf′ ≡ p
+  pub current : currentIn n wf′ ≡ p
+  pub outs : outsIn n wf′ ≡ outsIn n wf

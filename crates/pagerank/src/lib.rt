@@ -1,4 +1,4 @@
-// PageRank, and in its own module personalized PageRank: scores that nodes pass on along their weighted lists, round by round.
+// PageRank and, after it, personalized PageRank: scores that nodes pass on along their weighted lists, round by round.
 use graph::Ended;
 use graph::Refusal;
 use graph::Rounds;
@@ -21,9 +21,10 @@ ghost use Rattle.rounds.specs.Steps.{RoundsDone};
 ghost use Rattle.lists.specs.Lists.{sharesAt};
 ghost use Rattle.rounds.specs.Rounds.{after, outcome, outcomeFrom};
 ghost use Rattle.rounds.specs.Vectors.{entry, currentIn, nextIn, Vectors};
-ghost use Rattle.pagerank.specs.Links.{linksIn, outsIn, one, gives, sumOf, divisorOf, dividedAt};
+ghost use Rattle.pagerank.specs.Links.{linksIn, outsIn, one, double, gives, sumOf, divisorOf, dividedAt};
 ghost use Rattle.pagerank.specs.PageRank.{dangles, danglingSum, pagerankNode, pagerankNext, pagerankStep, startWrong, pagerankOutcome};
-ghost use Rattle.pagerank.specs.Steps.{LinksPre, PreparePre, Prepared, writtenBy, DividePre, Divided, Advanced, RoundDone};
+ghost use Rattle.pagerank.specs.Personalized.{personalIn, personalBase, gainsPart, personalNode, personalNext, personalStep, countsOf, personalOf, dampingWrong, personalizedOutcome};
+ghost use Rattle.pagerank.specs.Steps.{LinksPre, PreparePre, Prepared, writtenBy, DividePre, Divided, Advanced, RoundDone, PersonalPre, PersonalBegun};
 
 // The sum below which a start is refused.
 const TINY: f64 = 0.000000001;
@@ -347,4 +348,217 @@ fn numerator(counts: bool, vector: &[f64], i: usize) -> f64
         return vector[i];
     }
     1.0
+}
+
+// Personalized PageRank: from the personalization vector, into which nodes with no out-weight above zero dangle; 1/n for each node
+// unless a vector is given whose sum is positive.
+// Refuses SIZE, EMPTY, NODE, NUMBER, DAMPING, ROUNDS, LENGTH, ROOM, in this order. Running out of rounds is DONE, not settled.
+pub fn personalized_pagerank(
+    nodes: usize,
+    directed: bool,
+    from: &[u32],
+    to: &[u32],
+    weight: &[f64],
+    settings: Settings,
+    given: bool,
+    personalization: &[f64],
+    scores: &mut [f64],
+    w32: &mut [u32],
+    w64: &mut [u64],
+    wf: &mut [f64],
+) -> Ended
+    ensures { λ r. ⌜ left (saidEnded r) (now (scores .exit)) (now (w32 .exit)) (now (w64 .exit)) (now (wf .exit)) ≡ personalizedOutcome settings given (now (personalization .entry)) (lent nodes directed (now (from .entry)) (now (to .entry)) (now (weight .entry)) (now (scores .entry)) (now (w32 .entry)) (now (w64 .entry)) (now (wf .entry))) ⌝ }
+{
+    let own = Own {
+        number: rounds::reads_wrong(
+            weight,
+            settings.damping,
+            settings.tolerance,
+            given,
+            personalization,
+        ),
+        damping: damping_wrong(settings.damping),
+        rounds: settings.limit == 0,
+        lengths: rounds::length_wrong(given, personalization.len(), nodes),
+        start: false,
+    };
+    let answer = rounds::refusal(
+        nodes,
+        from,
+        to,
+        weight,
+        true,
+        own,
+        scores.len() < nodes,
+        w32.len(),
+        w64.len(),
+        wf.len(),
+    );
+    if graph::refuses(answer) {
+        return Ended::Refused(Refusal { answer });
+    }
+    prepare(nodes, directed, from, to, weight, w32, wf);
+    personal_begin(nodes, given, personalization, wf);
+    let ended = personal_run(nodes, from.len(), weight, settings, w32, wf);
+    write(nodes, from.len(), ended, scores, w32, w64, wf)
+}
+
+// The personalization in its region, and as the vector that the first round begins with.
+fn personal_begin(nodes: usize, given: bool, vector: &[f64], wf: &mut [f64])
+    requires { ⌜ PersonalPre nodes given (now vector) (now wf) ⌝ }
+    ensures { λ _. ⌜ PersonalBegun nodes (personalOf given (now (vector .entry)) nodes) (now (wf .entry)) (now (wf .exit)) ⌝ }
+{
+    let sum = divisor(given, vector, nodes);
+    let counts = counts(given, sum);
+    let base = 3 * nodes;
+    divide(nodes, counts, vector, chosen(counts, sum, nodes), base, wf);
+    regions::copyf_within(wf, base, 0, nodes);
+}
+
+// A given vector whose sum is positive.
+fn counts(given: bool, sum: f64) -> bool
+    ensures { λ r. ⌜ r ≡ countsOf given sum ⌝ }
+{
+    if given {
+        return 0.0 < sum;
+    }
+    false
+}
+
+// The sum of a vector that counts, else the number of nodes.
+fn chosen(counts: bool, sum: f64, nodes: usize) -> f64
+    ensures { λ r. ⌜ r ≡ cond counts sum (double nodes) ⌝ }
+{
+    if counts {
+        return sum;
+    }
+    std::num::nearest_u64_to_f64(nodes as u64)
+}
+
+// DAMPING: 0 or below, or 1 or above.
+fn damping_wrong(damping: f64) -> bool
+    ensures { λ r. ⌜ r ≡ dampingWrong damping ⌝ }
+{
+    if damping <= 0.0 {
+        return true;
+    }
+    1.0 <= damping
+}
+
+// Rounds until one meets the stop rule, or all are used.
+fn personal_run(
+    nodes: usize,
+    edges: usize,
+    weight: &[f64],
+    settings: Settings,
+    w: &[u32],
+    wf: &mut [f64],
+) -> Rounds
+    requires { ⌜ LinksPre nodes edges (now weight) (now w) (now wf) ⌝ }
+    ensures { λ r. ⌜ RoundsDone nodes settings (outcomeFrom (personalStep (linksIn nodes edges (now (weight .entry)) (now (w .entry)) (now (wf .entry))) (settings .damping) (settings .tolerance) (personalIn nodes (now (wf .entry)))) (settings .limit) 0 (currentIn nodes (now (wf .entry)))) (now (wf .entry)) r (now (wf .exit)) ⌝ }
+{
+    let damping = settings.damping;
+    let limit = settings.limit;
+    let bound = settings.tolerance * std::num::nearest_u64_to_f64(nodes as u64);
+    let mut done = 0u64;
+    while done < limit {
+        let made = personal_round(nodes, edges, weight, damping, w, wf);
+        done += 1;
+        if made.change < bound {
+            return Rounds {
+                settings,
+                rounds: done,
+                settled: true,
+            };
+        }
+    }
+    Rounds {
+        settings,
+        rounds: done,
+        settled: false,
+    }
+}
+
+// One round.
+fn personal_round(
+    nodes: usize,
+    edges: usize,
+    weight: &[f64],
+    damping: f64,
+    w: &[u32],
+    wf: &mut [f64],
+) -> Turn
+    requires { ⌜ LinksPre nodes edges (now weight) (now w) (now wf) ⌝ }
+    ensures { λ r. ⌜ RoundDone nodes (outsIn nodes (now (wf .entry))) (personalNext (linksIn nodes edges (now (weight .entry)) (now (w .entry)) (now (wf .entry))) damping (personalIn nodes (now (wf .entry)))) (now (wf .entry)) r (now (wf .exit)) ⌝ }
+{
+    personal_bases(nodes, damping, wf);
+    personal_spread(nodes, edges, weight, damping, w, wf);
+    advance(nodes, wf)
+}
+
+// The next vector at 0.0 + (1-damping)*p[j].
+fn personal_bases(nodes: usize, damping: f64, wf: &mut [f64])
+    requires { ⌜ 4 * nodes ≤ length (now wf) ⌝ }
+    ensures { λ _. ⌜ Divided nodes (listOf (personalBase damping (personalIn nodes (now (wf .entry)))) nodes) nodes (now (wf .entry)) (now (wf .exit)) ⌝ }
+{
+    let kept = 1.0 - damping;
+    let base = 3 * nodes;
+    let mut j = 0;
+    while j < nodes {
+        wf[nodes + j] = 0.0 + kept * wf[base + j];
+        j += 1;
+    }
+}
+
+// Each node in order gives: along its list, or into the personalization.
+fn personal_spread(
+    nodes: usize,
+    edges: usize,
+    weight: &[f64],
+    damping: f64,
+    w: &[u32],
+    wf: &mut [f64],
+)
+    requires { ⌜ LinksPre nodes edges (now weight) (now w) (now wf) ⌝ }
+    ensures { λ _. ⌜ Vectors nodes (now (wf .entry)) (currentIn nodes (now (wf .entry))) (after (personalNode (linksIn nodes edges (now (weight .entry)) (now (w .entry)) (now (wf .entry))) damping (personalIn nodes (now (wf .entry))) (currentIn nodes (now (wf .entry)))) nodes (nextIn nodes (now (wf .entry)))) (now (wf .exit)) ⌝ }
+{
+    let mut v = 0;
+    while v < nodes {
+        personal_node(nodes, edges, weight, damping, w, v, wf);
+        v += 1;
+    }
+}
+
+// A node whose out-weight is above zero distributes its damped score by weight, every other one dangles.
+fn personal_node(
+    nodes: usize,
+    edges: usize,
+    weight: &[f64],
+    damping: f64,
+    w: &[u32],
+    v: usize,
+    wf: &mut [f64],
+)
+    requires { ⌜ LinksPre nodes edges (now weight) (now w) (now wf) × (v < nodes) ⌝ }
+    ensures { λ _. ⌜ Vectors nodes (now (wf .entry)) (currentIn nodes (now (wf .entry))) (personalNode (linksIn nodes edges (now (weight .entry)) (now (w .entry)) (now (wf .entry))) damping (personalIn nodes (now (wf .entry))) (currentIn nodes (now (wf .entry))) v (nextIn nodes (now (wf .entry)))) (now (wf .exit)) ⌝ }
+{
+    let out = wf[2 * nodes + v];
+    if 0.0 < out {
+        give(nodes, edges, weight, damping * wf[v] / out, w, v, wf);
+        return;
+    }
+    dangle(nodes, damping * wf[v], wf);
+}
+
+// Each node gains dangling*p[j], in order.
+fn dangle(nodes: usize, dangling: f64, wf: &mut [f64])
+    requires { ⌜ 4 * nodes ≤ length (now wf) ⌝ }
+    ensures { λ _. ⌜ Vectors nodes (now (wf .entry)) (currentIn nodes (now (wf .entry))) (after (gainsPart dangling (personalIn nodes (now (wf .entry)))) nodes (nextIn nodes (now (wf .entry)))) (now (wf .exit)) ⌝ }
+{
+    let base = 3 * nodes;
+    let mut j = 0;
+    while j < nodes {
+        wf[nodes + j] = wf[nodes + j] + dangling * wf[base + j];
+        j += 1;
+    }
 }
