@@ -17,6 +17,7 @@ ghost use Rattle.other.specs.Reaching.{reachingOutcome, globalOutcome};
 ghost use Rattle.other.specs.Laplacian.{laplacianOutcome};
 ghost use Rattle.other.specs.VoteRank.{voterankOutcome};
 ghost use Rattle.pagerank.specs.PageRank.{pagerankOutcome};
+ghost use Rattle.pagerank.specs.Personalized.{personalizedOutcome};
 ghost use Rattle.eigenvector.specs.Eigenvector.{eigenOutcome};
 ghost use Rattle.katz.specs.Katz.{katzOutcome};
 ghost use Rattle.meadowrut.specs.Boundary.{raised, asked, returned, reported, counted, voiced, asNumber};
@@ -324,6 +325,41 @@ pub extern "C" fn meadowrut_pagerank(
         asked,
         given != 0,
         start,
+        scores,
+        w32,
+        w64,
+        wf,
+    );
+    report_of(ended)
+}
+
+#[no_mangle]
+pub extern "C" fn meadowrut_personalized_pagerank(
+    nodes: usize,
+    directed: u32,
+    from: &[u32],
+    to: &[u32],
+    weight: &[f64],
+    settings: Settings,
+    given: u32,
+    personalization: &[f64],
+    scores: &mut [f64],
+    w32: &mut [u32],
+    w64: &mut [u64],
+    wf: &mut [f64],
+) -> Report
+    ensures { λ r. ⌜ left r (now (scores .exit)) (now (w32 .exit)) (now (w64 .exit)) (now (wf .exit)) ≡ voiced reported (personalizedOutcome (asked settings) (raised given) (now (personalization .entry)) (lent nodes (raised directed) (now (from .entry)) (now (to .entry)) (now (weight .entry)) (now (scores .entry)) (now (w32 .entry)) (now (w64 .entry)) (now (wf .entry)))) ⌝ }
+{
+    let asked = settings_of(settings);
+    let ended = pagerank::personalized_pagerank(
+        nodes,
+        directed != 0,
+        from,
+        to,
+        weight,
+        asked,
+        given != 0,
+        personalization,
         scores,
         w32,
         w64,
