@@ -16,6 +16,9 @@ use Rattle.graph.specs.Refusals.{firstOf, firstRefusal}
 use Rattle.graph.specs.Left.{left}
 use Rattle.degree.specs.Degree.{endCount, endScores, endsOutcome, degreeOutcome}
 use Rattle.other.specs.Laplacian.{laplacianScore, laplacianScores, laplacianOutcome}
+use Rattle.hops.specs.Sum.{sumOver, below, same}
+use Rattle.hops.specs.Hops.{walks, seek, dist}
+use Rattle.other.specs.Reaching.{othersIn, reachScore, reachingOutcome}
 use Rattle.other.specs.VoteRank.{decayOf, votes, listed, pollScore, firstHighest, winner, electing, elections, closing, voterankOutcome}
 
 abbrev float : ℕ → Float
@@ -57,3 +60,29 @@ p5 = record { degree = refl; laplacian = refl; voterank = refl }
 p4-room : laplacianOutcome (path (replicate 2 nan) (replicate 49 7) (replicate 7 7) (replicate 27 nan)) ≡ left (refusal 5) (replicate 2 nan) (replicate 49 7) (replicate 7 7) (replicate 27 nan)
 unfolding laplacianOutcome firstRefusal firstOf sizeWrong nodeWrong firstFault workWrong edgesFrom
 p4-room = refl
+
+-- ---- seeds: none, more than there are nodes, and a graph without edges
+
+abbrev pair : {R : Type 0} → List ℕ → List ℕ → List Float → R → List ℕ → List ℕ → List Float → Given R
+pair from to weight = given 2 false from to weight
+
+record Seeds : Type 0 where
+  -- 0 seeds: nobody, and no room is needed
+  pub none : voterankOutcome 0 (loop [] (replicate 24 7) (replicate 2 7) (replicate 10 nan)) ≡ left (done 0) [] (replicate 24 0) (replicate 2 0) (replicate 10 zeroF)
+  -- 2^64-1 seeds: room for n is enough
+  pub most : voterankOutcome 18446744073709551615 (loop (7 ∷ []) (replicate 24 7) (replicate 2 7) (replicate 10 nan)) ≡ left (done 1) (0 ∷ []) (replicate 24 0) (replicate 2 0) (replicate 10 zeroF)
+  -- no edges: nobody has a vote
+  pub no-edges : voterankOutcome 2 (pair [] [] [] (7 ∷ 7 ∷ []) (replicate 24 7) (replicate 4 7) (replicate 12 nan)) ≡ left (done 0) (7 ∷ 7 ∷ []) (replicate 24 0) (replicate 4 0) (replicate 12 zeroF)
+  -- 0-1, both with one vote: the first of them, and then no score is above 0
+  pub tie : voterankOutcome 2 (pair (0 ∷ []) (1 ∷ []) (nan ∷ []) (7 ∷ 7 ∷ []) (replicate 32 7) (replicate 4 7) (replicate 16 nan)) ≡ left (done 1) (0 ∷ 7 ∷ []) (replicate 32 0) (replicate 4 0) (replicate 16 zeroF)
+
+seeds : Seeds
+unfolding voterankOutcome closing decayOf elections electing winner firstHighest pollScore listed votes firstRefusal firstOf sizeWrong nodeWrong firstFault workWrong over cleared neighbours newestFirst edgesFrom ofBits ofInt add sub div lt eq isNan maxOf under
+seeds = record { none = refl; most = refl; no-edges = refl; tie = refl }
+
+-- ---- reaching on the path 0-1-2: one hop, and no hop
+
+one-hop : reachingOutcome 1 (path (replicate 3 nan) (replicate 48 7) (replicate 6 7) (replicate 26 nan))
+    ≡ left (done tt) (float 0x3fe0_0000_0000_0000 ∷ float 0x3ff0_0000_0000_0000 ∷ float 0x3fe0_0000_0000_0000 ∷ []) (replicate 48 0) (replicate 6 0) (replicate 26 zeroF)
+unfolding reachingOutcome reachScore othersIn sumOver below dist seek walks same firstRefusal firstOf sizeWrong nodeWrong firstFault workWrong over cleared listOf neighbours newestFirst edgesFrom ofBits ofInt div
+one-hop = refl
