@@ -2,10 +2,9 @@
 use mathlib.Core.Path.{_≡_, refl, sym, ap, _∙_, subst}
 use mathlib.Core.Bool.{Bool, true, false, _||_, false≢true}
 use mathlib.Core.List.{List, foldr}
-use Prim.Native.Nat.{ℕ, zero, suc, _+_, _*_, _-_, _≤_, _<_}
+use Prim.Native.Nat.{ℕ, zero, suc, _+_, _-_, _≤_, _<_}
 use native.Mathlib.Numerals.{add-one}
 use native.Mathlib.Omega.{arith}
-use lib.ListN.{length, getD}
 use lib.Ieee.{Float}
 use Rattle.regions.specs.Region.{part}
 use Rattle.regions.proofs.Fronts.{front-none, front-then}
@@ -15,7 +14,7 @@ use Rattle.graph.specs.Layout.{distancesAt, queueAt, incomingAt, filledAt, pred
 use Rattle.hops.specs.declared.Reached.{Reached}
 use Rattle.hops.specs.declared.Reached.the-variants.{Nodes, Paths}
 use Rattle.hops.specs.Hops.{exceeds, pathLimit}
-use Rattle.hops.specs.Search.{graphOf, TooMany, ForgetPre, Forgotten}
+use Rattle.hops.specs.Search.{graphOf, ForgetPre, Forgotten}
 use Rattle.hops.proofs.Forgetting.{forget-pre}
 use Rattle.brandes.specs.Steps.{heldPredecessors, leftBy, AccumulatePre, ReleasePre, Released}
 use Rattle.brandes.specs.Tracks.{Traced, Ended, SearchPre, SearchPost}

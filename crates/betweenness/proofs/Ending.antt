@@ -1,15 +1,14 @@
 -- How `betweenness` ends: what its steps leave is the outcome. Assumes nothing.
-use mathlib.Core.Path.{_≡_, refl, sym, ap, _∙_, subst}
-use mathlib.Core.Logic.{_⊎_, inl, inr, ⊎-elim}
+use mathlib.Core.Path.{_≡_, sym, ap, _∙_, subst}
 use mathlib.Core.Bool.{Bool, true, false, cond}
-use mathlib.Core.List.{List, map}
-use Prim.Native.Nat.{ℕ, _+_, _*_, _≤_, _<_}
+use mathlib.Core.List.{List}
+use Prim.Native.Nat.{ℕ, _≤_, _<_}
 use native.Mathlib.Omega.{arith}
 use borrow.Author.Tests.{ltb-false, eqb-false}
 use lib.Dec.{ltb}
 use lib.ListN.{length, getD}
 use lib.Ieee.{Float, nan}
-use Rattle.regions.specs.Region.{over, listOf, cleared, zeroF, Front}
+use Rattle.regions.specs.Region.{over, listOf, cleared, zeroF}
 use Rattle.regions.proofs.Fronts.{cleared-afterD}
 use Rattle.graph.specs.declared.Answer.the-variants.{Paths}
 use Rattle.graph.specs.declared.Fronts.{Fronts}
@@ -17,15 +16,14 @@ use Rattle.graph.specs.Answers.{Said, done, refusedWith}
 use Rattle.graph.specs.Edges.{edgesOf}
 use Rattle.graph.specs.Fronts.{usualFronts}
 use Rattle.graph.specs.Given.{Given, graphIn}
-use Rattle.graph.specs.Pres.{Passed, Ready, Roomy, Limits}
-use Rattle.graph.specs.Refusals.{Tests, firstRefusal}
+use Rattle.graph.specs.Pres.{Passed, Ready, Roomy}
+use Rattle.graph.specs.Refusals.{Tests}
 use Rattle.graph.specs.Left.{Left, left, wiped, lateRefusal, Wiped}
 use Rattle.graph.proofs.Refusals.{plainTests, plain-ready, plain-fits}
 use Rattle.graph.proofs.Left.{went-on}
 use Rattle.hops.specs.Hops.{pathLimit}
-use Rattle.hops.specs.Search.{graphOf}
 use Rattle.betweenness.specs.Betweenness.{scaled, scoresAfter, betweennessScores, someExceeds, betweennessOutcome}
-use Rattle.betweenness.specs.Starts.{Within, Still, Scored, StartsPre, StartsPost, PreparePre, Prepared, WritePre}
+use Rattle.betweenness.specs.Starts.{Within, Scored, StartsPre, StartsPost, PreparePre, Prepared, WritePre}
 use Rattle.betweenness.proofs.Adding.{within-then}
 use Rattle.betweenness.proofs.Scaling.{scaled-all}
 

@@ -1,28 +1,28 @@
 -- The rows of the edges turned round have, for each node, as many entries as lead to it. Assumes nothing.
-use mathlib.Core.Path.{_≡_, refl, sym, ap, ap₂, _∙_, subst}
+use mathlib.Core.Path.{_≡_, refl, sym, ap, ap₂, _∙_}
 use mathlib.Core.Logic.{_⊎_, inl, inr, ⊎-elim}
 use mathlib.Core.Bool.{Bool}
 use mathlib.Core.List.{List, [], _∷_, map}
-use Prim.Native.Nat.{ℕ, zero, suc, _+_, _*_, _-_, _≤_, _<_}
+use Prim.Native.Nat.{ℕ, suc, _+_, _*_, _-_, _≤_, _<_}
 use native.Mathlib.Nat.{mul-one}
 use native.Mathlib.Omega.{arith}
-use borrow.Rule.Slice.PartMut.{putMid, mid-len}
+use borrow.Rule.Slice.PartMut.{putMid}
 use lib.ListN.{length, getD, take, drop, length-take, length-drop}
 use lib.Seq.{getD-take, getD-drop}
 use lib.Ieee.{Float}
-use Rattle.regions.specs.Region.{Frame, Front}
+use Rattle.regions.specs.Region.{Frame}
 use Rattle.regions.proofs.Cases.{below-or-not}
 use Rattle.regions.proofs.Frames.{frame-by}
 use Rattle.regions.proofs.Lent.{lent-frame, lent-at}
 use Rattle.graph.specs.Edges.{Edge, Graph, edgesFrom, edgesOf, neighbours, entries}
 use Rattle.graph.specs.Layout.{incomingAt}
-use Rattle.graph.specs.Pres.{Sized, Limits, Inside, Sound}
-use Rattle.rows.specs.Rows.{rowAt, rowsFront, BuildPre, Built}
+use Rattle.graph.specs.Pres.{Sound}
+use Rattle.rows.specs.Rows.{rowsFront, BuildPre, Built}
 use Rattle.rows.proofs.Reading.{row-length}
-use Rattle.hops.specs.Sum.{sumOver, below, same, times}
+use Rattle.hops.specs.Sum.{times}
 use Rattle.hops.specs.Hops.{walks, turn, turned, Valid}
 use Rattle.hops.specs.Search.{graphOf}
-use Rattle.hops.proofs.Sums.{sum-cong, below-cong, sum-length, sum-times}
+use Rattle.hops.proofs.Sums.{below-cong, sum-length, sum-times}
 use Rattle.hops.proofs.Walks.{walks-turn, turned-inside, entry-lt}
 use Rattle.hops.proofs.Workspace.{valid}
 use Rattle.brandes.specs.Tracks.{leading}

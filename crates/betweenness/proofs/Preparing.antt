@@ -1,26 +1,25 @@
 -- The workspace before the first start. Assumes nothing.
-use mathlib.Core.Path.{_≡_, refl, sym, ap, _∙_, subst}
+use mathlib.Core.Path.{_≡_, refl, sym, ap, _∙_}
 use mathlib.Core.Bool.{Bool}
 use mathlib.Core.List.{List}
 use Prim.Native.Nat.{ℕ, _+_, _*_, _-_, _≤_, _<_}
 use native.Mathlib.Nat.{zero-add}
 use native.Mathlib.Omega.{arith}
-use lib.ListN.{length, getD, replicate, length-replicate, getD-replicate}
+use lib.ListN.{length, getD, length-replicate, getD-replicate}
 use lib.Ieee.{Float, nan}
-use Rattle.regions.specs.Region.{zeroF, Front, Filled, Copied, Apart}
+use Rattle.regions.specs.Region.{zeroF, Filled, Copied, Apart}
 use Rattle.regions.proofs.Fronts.{front-then, front-wide}
 use Rattle.regions.proofs.Frames.{frame-front}
 use Rattle.graph.specs.Edges.{edgesOf}
 use Rattle.graph.specs.Fronts.{usualFronts}
-use Rattle.graph.specs.Layout.{distancesAt, queueAt, incomingAt, filledAt, predecessorsAt}
-use Rattle.rows.specs.Rows.{rowsFront, BuildPre, Built}
+use Rattle.graph.specs.Layout.{distancesAt, queueAt, incomingAt, filledAt}
+use Rattle.rows.specs.Rows.{BuildPre, Built}
 use Rattle.hops.specs.Hops.{unreached}
-use Rattle.hops.specs.Search.{graphOf, Space, Fresh}
+use Rattle.hops.specs.Search.{graphOf}
 use Rattle.hops.proofs.Search.{space-after}
 use Rattle.hops.proofs.Workspace.{valid, rows-of, space-filled, fresh-filled}
-use Rattle.brandes.specs.Tracks.{leading, Slots}
 use Rattle.betweenness.specs.Betweenness.{scoresAfter}
-use Rattle.betweenness.specs.Starts.{Within, Still, Scored, IndexPre, Indexed, PreparePre, Prepared}
+use Rattle.betweenness.specs.Starts.{Still, Scored, IndexPre, Indexed, PreparePre, Prepared}
 
 module _ {n : ℕ} (directed : Bool) {from to : List ℕ} {weight : List Float} {w c : List ℕ} {f : List Float} (P : PreparePre n from to weight w c f) where
   pub rows-pre : BuildPre n from to weight w

@@ -1,19 +1,17 @@
 -- The scores as they are written: scaled by the case that holds. Assumes nothing.
-use mathlib.Core.Path.{_≡_, refl, sym, ap, _∙_}
+use mathlib.Core.Path.{_≡_, sym, ap, _∙_}
 use mathlib.Core.Bool.{Bool, true, false, cond}
 use mathlib.Core.List.{List, map}
-use Prim.Native.Nat.{ℕ, _+_, _*_, _-_, _≤_, _<_}
+use Prim.Native.Nat.{ℕ, _*_, _-_, _≤_, _<_}
 use native.Mathlib.Nat.{zero-add}
 use native.Mathlib.Omega.{arith}
 use borrow.Author.Tests.{lt-ltb, le-ltb}
-use lib.Dec.{ltb}
 use lib.ListN.{length, getD, length-map, List·getD-map}
 use lib.Seq.{ext-getD}
 use lib.Ieee.{Float, nan, binary64, mul, div}
 use Rattle.regions.specs.Region.{over, listOf, part}
 use Rattle.regions.proofs.Fronts.{list-long, list-same}
 use Rattle.regions.proofs.Parts.{list-at, part-is}
-use Rattle.regions.proofs.Fronts.{getD-any}
 use Rattle.brandes.specs.Shares.{one, double}
 use Rattle.betweenness.specs.Betweenness.{half, scaled}
 use Rattle.betweenness.specs.Starts.{Scored}

@@ -1,8 +1,8 @@
 -- One start: from the workspace between two starts through search, accumulation and taking back to the next. Assumes nothing.
-use mathlib.Core.Path.{_≡_, refl, sym, ap, ap₂, _∙_, subst}
+use mathlib.Core.Path.{_≡_, refl, sym, ap, _∙_}
 use mathlib.Core.Logic.{_≢_, _⊎_, inl, inr, ⊎-elim}
-use mathlib.Core.Bool.{Bool, true, false}
-use mathlib.Core.List.{List, [], _∷_, foldr, List·Memᴰ}
+use mathlib.Core.Bool.{true, false}
+use mathlib.Core.List.{List, [], foldr, List·Memᴰ}
 use Prim.Native.Nat.{ℕ, _+_, _*_, _-_, _≤_, _<_}
 use native.Mathlib.Omega.{arith}
 use lib.ListN.{length, getD, replicate, length-replicate, getD-replicate}
@@ -10,20 +10,19 @@ use lib.Ieee.{Float, nan}
 use Rattle.regions.specs.Region.{zeroF, listOf, part, Front}
 use Rattle.regions.proofs.Fronts.{list-long, front-by, front-none, front-then, front-wide}
 use Rattle.regions.proofs.Parts.{list-at}
-use Rattle.graph.specs.Edges.{Edge, Graph}
-use Rattle.graph.specs.Fronts.{usualFronts}
+use Rattle.graph.specs.Edges.{Graph}
 use Rattle.graph.specs.Layout.{distancesAt, queueAt, incomingAt, filledAt, predecessorsAt}
 use Rattle.hops.specs.Hops.{unreached, dist, count, exceeds, pathLimit}
-use Rattle.hops.specs.Search.{graphOf, Space, Fresh, Found, TooMany, Forgotten}
+use Rattle.hops.specs.Search.{Found, TooMany, Forgotten}
 use Rattle.hops.proofs.Sums.{eq-or-ne}
 use Rattle.hops.proofs.Dist.{dist-cases}
 use Rattle.hops.proofs.Search.{space-after}
 use Rattle.hops.proofs.Forgetting.{fresh-again, forgotten-kept, space-again}
 use Rattle.hops.proofs.Limits.{within-limit, exceeds-exactly}
-use Rattle.brandes.specs.Order.{order, entered, predecessors}
-use Rattle.brandes.specs.Shares.{double, Sums, sums, leave}
+use Rattle.brandes.specs.Order.{order, predecessors}
+use Rattle.brandes.specs.Shares.{double, sums}
 use Rattle.brandes.specs.Steps.{heldPredecessors, leftBy, ReleasePre, Released}
-use Rattle.brandes.specs.Tracks.{Slots, Holding, Traced, Stays, NoEntries}
+use Rattle.brandes.specs.Tracks.{Traced, Stays}
 use Rattle.brandes.proofs.Predecessors.{entered-mem}
 use Rattle.brandes.proofs.Holding.{slots-after}
 use Rattle.brandes.proofs.Accumulating.{SumsIn}

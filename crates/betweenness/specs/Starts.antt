@@ -1,9 +1,9 @@
 -- What holds in the workspace between two starts, and what the steps ask and leave. Definitions only.
 use mathlib.Core.Path.{_≡_}
-use mathlib.Core.Bool.{Bool, true, false}
+use mathlib.Core.Bool.{Bool, false}
 use mathlib.Core.List.{List}
 use Prim.Native.Nat.{ℕ, _+_, _*_, _≤_, _<_}
-use lib.ListN.{length, getD, replicate}
+use lib.ListN.{length, getD}
 use lib.Ieee.{Float, nan}
 use Rattle.regions.specs.Region.{zeroF, Front, Frame}
 use Rattle.graph.specs.Edges.{Edge, Graph, edgesOf}

@@ -2,16 +2,16 @@
 use mathlib.Core.Path.{_≡_, refl, sym, ap, ap₂, _∙_, subst}
 use mathlib.Core.Logic.{_≢_, _⊎_, inl, inr}
 use mathlib.Core.Bool.{Bool, true, false, cond}
-use mathlib.Core.List.{List, [], _∷_, _++_, foldl, foldr, List·Memᴰ, List·Memᴰ·head, List·Memᴰ·tail}
-use Prim.Native.Nat.{ℕ, zero, suc, _+_, _-_, _≤_, _<_}
+use mathlib.Core.List.{List, [], _∷_, foldl, foldr, List·Memᴰ, List·Memᴰ·head, List·Memᴰ·tail}
+use Prim.Native.Nat.{ℕ, _+_, _-_, _≤_, _<_}
 use native.Mathlib.Omega.{arith}
 use lib.Dec.{eqb}
-use lib.ListN.{length, getD, set, length-set}
+use lib.ListN.{length, getD, length-set}
 use lib.Ieee.{Float, nan, binary64, add}
-use Rattle.regions.specs.Region.{part, Front}
-use Rattle.regions.proofs.Fronts.{hitD, missD, front-none, front-set, front-then}
+use Rattle.regions.specs.Region.{Front}
+use Rattle.regions.proofs.Fronts.{hitD, missD, front-none, front-set}
 use Rattle.hops.proofs.Sums.{eq-or-ne}
-use Rattle.brandes.specs.Shares.{one, double, share, grow, Sums, sums, passed, leave}
+use Rattle.brandes.specs.Shares.{one, share, grow, Sums, sums, passed, leave}
 use Rattle.brandes.specs.Steps.{heldCount, passedBack, leftBy}
 
 -- the floats hold the scores in their first n places and delta in the next n

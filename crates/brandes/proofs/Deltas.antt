@@ -3,12 +3,12 @@ use mathlib.Core.Path.{_≡_, refl, sym, ap, ap₂, _∙_}
 use mathlib.Core.Logic.{_≢_, _⊎_, inl, inr}
 use mathlib.Core.List.{List, [], _∷_, foldl, foldr, List·Memᴰ, List·Memᴰ·head, List·Memᴰ·tail, List·Permᴰ, List·Permᴰ·nil, List·Permᴰ·cons, List·Permᴰ·swap, List·Permᴰ·trans}
 use Prim.Native.Nat.{ℕ, _+_}
-use lib.ListN.{length, getD, set}
+use lib.ListN.{getD, set}
 use lib.Seq.{getD-set-other, set-comm}
 use lib.Ieee.{Float, nan, binary64, add}
-use Rattle.graph.specs.Edges.{Graph, entries}
+use Rattle.graph.specs.Edges.{Graph}
 use Rattle.hops.proofs.Sums.{eq-or-ne, eqb-no}
-use Rattle.brandes.specs.Order.{entered, enteredBy, copies}
+use Rattle.brandes.specs.Order.{entered}
 use Rattle.brandes.specs.Shares.{one, share, grow, Sums, passed, leave}
 
 -- ---- where delta stays

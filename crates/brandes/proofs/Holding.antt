@@ -1,5 +1,5 @@
 -- Predecessor entries in the workspace: where each node's places lie, and one entry more. Assumes nothing.
-use mathlib.Core.Path.{_≡_, refl, sym, ap, ap₂, _∙_, subst}
+use mathlib.Core.Path.{_≡_, refl, sym, ap, _∙_, subst}
 use mathlib.Core.Logic.{_≢_, _⊎_, inl, inr}
 use mathlib.Core.List.{List, [], _∷_, _++_}
 use Prim.Native.Nat.{ℕ, zero, suc, _+_, _-_, _≤_, _<_}
@@ -8,7 +8,7 @@ use lib.ListN.{length, getD, set, length-append, length-set, List·getD-append}
 use lib.Seq.{getD-at}
 use Rattle.regions.proofs.Fronts.{hit, miss}
 use Rattle.regions.proofs.Cases.{below-or-not}
-use Rattle.graph.specs.Edges.{Graph, entries}
+use Rattle.graph.specs.Edges.{Graph}
 use Rattle.hops.proofs.Sums.{eq-or-ne}
 use Rattle.brandes.specs.Tracks.{leading, Slots, Holding, pushed, PushPre}
 

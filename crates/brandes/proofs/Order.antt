@@ -2,15 +2,15 @@
 use mathlib.Core.Path.{_≡_, refl, sym, ap, _∙_, subst}
 use mathlib.Core.Logic.{_≢_, _⊎_, inl, inr}
 use mathlib.Core.Bool.{Bool, true, false, _||_, cond}
-use mathlib.Core.List.{List, [], _∷_, _++_, foldl, foldl-append, append-assoc, append-nil}
+use mathlib.Core.List.{List, [], _∷_, _++_, foldl-append, append-assoc, append-nil}
 use Prim.Native.Nat.{ℕ, zero, suc, _+_, _≤_, _<_}
 use native.Mathlib.Omega.{arith}
 use lib.Dec.{eqb}
 use lib.ListN.{length, getD, take, length-append}
-use lib.Seq.{take-at, take-suc, take-all, take-append-le}
+use lib.Seq.{take-at, take-suc}
 use Rattle.regions.proofs.Cases.{below-or-not}
 use Rattle.graph.specs.Edges.{Graph, entries}
-use Rattle.hops.specs.Sum.{sumOver, same, times}
+use Rattle.hops.specs.Sum.{sumOver, times}
 use Rattle.hops.proofs.Sums.{eq-or-ne, eqb-yes, eqb-no, same-yes, same-no}
 use Rattle.brandes.specs.Order.{holds, admit, joined, entriesOf, levels, order}
 

@@ -1,16 +1,16 @@
 -- The predecessor entries entered so far: with one entry more, with a node done, how many there can be. Assumes nothing.
-use mathlib.Core.Path.{_≡_, refl, sym, ap, ap₂, _∙_, subst}
+use mathlib.Core.Path.{_≡_, refl, sym, ap, ap₂, _∙_}
 use mathlib.Core.Logic.{_≢_, _⊎_, inl, inr}
 use mathlib.Core.Bool.{Bool, true, false, cond}
 use mathlib.Core.List.{List, [], _∷_, _++_, append-assoc, append-nil, List·Memᴰ, List·Memᴰ·head, List·Memᴰ·tail, List·Memᴰ·append-cases, List·Memᴰ·not-nil, List·Memᴰ·eq-of-singleton, Memᴰ·append-left, Memᴰ·append-right}
-use Prim.Native.Nat.{ℕ, zero, suc, _+_, _*_, _≤_, _<_}
+use Prim.Native.Nat.{ℕ, _+_, _*_, _≤_, _<_}
 use native.Mathlib.Nat.{mul-le-mul-right, one-mul}
 use native.Mathlib.Omega.{arith}
 use lib.Dec.{eqb}
-use lib.ListN.{length, getD, take, length-append}
+use lib.ListN.{length, length-append}
 use Rattle.graph.specs.Edges.{Graph, entries, only}
 use Rattle.hops.specs.Sum.{sumOver, below, onlyIf, same, times}
-use Rattle.hops.proofs.Sums.{eq-or-ne, eqb-yes, eqb-no, same-yes, same-no, sum-append, sum-times, below-mono}
+use Rattle.hops.proofs.Sums.{eq-or-ne, eqb-yes, eqb-no, sum-append, sum-times, below-mono}
 use Rattle.brandes.specs.Order.{copies, enteredBy, entered}
 use Rattle.brandes.specs.Tracks.{leading, soFar}
 

@@ -1,16 +1,15 @@
 -- A search stays what it is where only places behind its queue change. Assumes nothing.
 use mathlib.Core.Path.{_≡_, refl, sym, ap, ap₂, _∙_, subst}
-use mathlib.Core.Logic.{_≢_}
 use mathlib.Core.List.{List, [], _∷_, _++_, List·Memᴰ, List·Memᴰ·head, List·Memᴰ·tail, Memᴰ·append-left, Memᴰ·append-right}
-use Prim.Native.Nat.{ℕ, zero, suc, _+_, _*_, _≤_, _<_}
+use Prim.Native.Nat.{ℕ, zero, suc, _+_, _<_}
 use native.Mathlib.Omega.{arith}
 use lib.ListN.{length, getD, take}
 use Rattle.regions.specs.Region.{listOf}
 use Rattle.regions.proofs.Fronts.{list-same}
 use Rattle.graph.specs.Edges.{Graph, entries}
-use Rattle.hops.specs.Sum.{sumOver, same, times}
-use Rattle.hops.specs.Hops.{unreached, Valid}
-use Rattle.hops.specs.Search.{share, Sorted, has, Led, Comes, Ways, Mid, cells, places, Space, Search}
+use Rattle.hops.specs.Sum.{same, times}
+use Rattle.hops.specs.Hops.{Valid}
+use Rattle.hops.specs.Search.{share, Sorted, has, Led, Comes, Ways, Mid, cells, Search}
 use Rattle.hops.proofs.Sums.{sum-cong-mem}
 use Rattle.hops.proofs.Walks.{entry-lt}
 use Rattle.hops.proofs.Steps.{u-in}

@@ -1,22 +1,21 @@
 -- From a search that is over to the accumulation: what it asks, and what it comes to by the definitions. Assumes nothing.
-use mathlib.Core.Path.{_≡_, refl, sym, ap, ap₂, _∙_, subst}
+use mathlib.Core.Path.{_≡_, refl, sym, ap, _∙_, subst}
 use mathlib.Core.Logic.{_≢_, _⊎_, inl, inr}
-use mathlib.Core.List.{List, [], _∷_, _++_, foldr, List·Memᴰ, List·Memᴰ·head, List·Memᴰ·tail, List·Memᴰ·append-cases, List·Memᴰ·not-nil, List·Memᴰ·eq-of-singleton}
+use mathlib.Core.List.{List, [], _∷_, foldr, List·Memᴰ, List·Memᴰ·head, List·Memᴰ·tail, List·Memᴰ·append-cases, List·Memᴰ·not-nil, List·Memᴰ·eq-of-singleton}
 use Prim.Native.Nat.{ℕ, zero, suc, _+_, _-_, _≤_, _<_}
 use native.Mathlib.Omega.{arith}
 use lib.ListN.{length, getD}
 use lib.Seq.{ext-getD}
 use lib.Ieee.{Float}
 use Rattle.regions.specs.Region.{listOf, part, Front}
-use Rattle.regions.proofs.Fronts.{list-long}
 use Rattle.regions.proofs.Parts.{part-long, part-at, part-list}
 use Rattle.graph.specs.Edges.{Graph}
 use Rattle.hops.specs.Hops.{unreached, dist, count}
 use Rattle.hops.specs.Search.{cells}
-use Rattle.brandes.specs.Order.{order, entered, predecessors}
+use Rattle.brandes.specs.Order.{order, predecessors}
 use Rattle.brandes.specs.Shares.{double, Sums, leave}
-use Rattle.brandes.specs.Steps.{heldCount, heldPredecessors, leftBy, HeldEntries, AccumulatePre}
-use Rattle.brandes.specs.Tracks.{leading, Slots, Holding, Traced}
+use Rattle.brandes.specs.Steps.{heldPredecessors, leftBy, HeldEntries, AccumulatePre}
+use Rattle.brandes.specs.Tracks.{Traced}
 use Rattle.brandes.proofs.Predecessors.{entered-mem}
 use Rattle.brandes.proofs.Holding.{before-next}
 use Rattle.brandes.proofs.Accumulating.{SumsIn, all-held, all-front}

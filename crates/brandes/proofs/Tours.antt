@@ -1,5 +1,5 @@
 -- A visit's walk over the entries of its node, and the visits one after the other. Assumes nothing.
-use mathlib.Core.Path.{_≡_, refl, sym, ap, ap₂, _∙_, subst}
+use mathlib.Core.Path.{_≡_, refl, sym, ap, _∙_, subst}
 use mathlib.Core.Logic.{_≢_, _⊎_, inl, inr}
 use mathlib.Core.Bool.{Bool, true, false}
 use mathlib.Core.List.{List, [], _∷_, _++_, append-nil}
@@ -8,7 +8,7 @@ use native.Mathlib.Numerals.{add-one}
 use native.Mathlib.Omega.{arith}
 use lib.ListN.{length, getD, set, take, length-set}
 use lib.Seq.{take-all, take-suc}
-use Rattle.regions.specs.Region.{listOf, Front}
+use Rattle.regions.specs.Region.{listOf}
 use Rattle.regions.proofs.Fronts.{hit, miss, front-none, front-then, list-long}
 use Rattle.regions.proofs.Parts.{list-at}
 use Rattle.graph.specs.Edges.{Edge, Graph, entries}
@@ -17,17 +17,16 @@ use Rattle.hops.specs.declared.Step.the-variants.{First, Again, Other, Paths}
 use Rattle.hops.specs.declared.Reached.{Reached}
 use Rattle.hops.specs.declared.Reached.the-variants as reached
 use Rattle.hops.specs.Hops.{unreached, dist}
-use Rattle.hops.specs.Search.{cells, graphOf, Space, Fresh, Begun, Kept, Search, Found, TooMany, Touched, grown, tooMany}
+use Rattle.hops.specs.Search.{cells, graphOf, Space, Fresh, Begun, Kept, TooMany, Touched, grown, tooMany}
 use Rattle.hops.proofs.Sums.{eq-or-ne}
 use Rattle.hops.proofs.Search as search
 use Rattle.brandes.specs.Order.{joined, entriesOf, entered}
 use Rattle.brandes.specs.Order as breadth
-use Rattle.brandes.specs.Tracks.{leading, soFar, Slots, Holding, Ordered, Tracked, Traced, Stays, VisitPre, VisitPost, Visited, NoEntries, enters, pushed, PushPre, EnterPre, EnterPost}
-use Rattle.brandes.proofs.Order.{entries-more, entries-none, queue-order}
+use Rattle.brandes.specs.Tracks.{leading, soFar, Slots, Holding, Tracked, Traced, Stays, VisitPre, VisitPost, Visited, NoEntries, pushed, EnterPre, EnterPost}
+use Rattle.brandes.proofs.Order.{entries-more, queue-order}
 use Rattle.brandes.proofs.Predecessors.{so-none, so-done}
-use Rattle.brandes.proofs.Holding.{slots-after, holding-same, holding-after, rise}
-use Rattle.brandes.proofs.Entering.{push-pre}
-use Rattle.brandes.proofs.Tracking.{most, done-is, near-dist, end-inside, enter-pre, track, track-paths}
+use Rattle.brandes.proofs.Holding.{slots-after, holding-same}
+use Rattle.brandes.proofs.Tracking.{most, near-dist, end-inside, enter-pre, track, track-paths}
 
 -- ---- what stays
 

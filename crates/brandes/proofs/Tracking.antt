@@ -1,32 +1,30 @@
 -- A search that keeps the predecessor entries, entry by entry and node by node. Assumes nothing.
 use mathlib.Core.Path.{_≡_, refl, sym, ap, ap₂, _∙_, subst}
 use mathlib.Core.Logic.{_≢_, _⊎_, inl, inr}
-use mathlib.Core.Bool.{Bool, true, false, cond, false≢true}
-use mathlib.Core.List.{List, [], _∷_, _++_, append-assoc, append-nil, List·Memᴰ, List·Memᴰ·head, List·Memᴰ·append-cases, Memᴰ·append-left, Memᴰ·append-right, List·Memᴰ·eq-of-singleton}
-use Prim.Native.Nat.{ℕ, zero, suc, _+_, _-_, _*_, _≤_, _<_}
+use mathlib.Core.Bool.{true, false, false≢true}
+use mathlib.Core.List.{List, [], _∷_, _++_, append-assoc, List·Memᴰ, List·Memᴰ·head, List·Memᴰ·append-cases, Memᴰ·append-left, Memᴰ·append-right, List·Memᴰ·eq-of-singleton}
+use Prim.Native.Nat.{ℕ, zero, suc, _+_, _-_, _≤_, _<_}
 use native.Mathlib.Nat.{add-zero}
 use native.Mathlib.Numerals.{add-one}
 use native.Mathlib.Omega.{arith}
 use lib.ListN.{length, getD, set, take, length-append, length-set}
-use lib.Seq.{take-at, take-suc, take-all, take-append-le, length-take-le}
+use lib.Seq.{take-at, take-suc, take-append-le}
 use Rattle.regions.specs.Region.{listOf}
 use Rattle.regions.proofs.Fronts.{hit, miss, list-more, list-long, list-same}
-use Rattle.regions.proofs.Parts.{list-at}
 use Rattle.graph.specs.Edges.{Graph, entries}
 use Rattle.hops.specs.declared.Step.{Step}
 use Rattle.hops.specs.declared.Step.the-variants.{First, Again, Other, Paths}
 use Rattle.hops.specs.Sum.{sumOver, same, times}
 use Rattle.hops.specs.Hops.{unreached, dist}
-use Rattle.hops.specs.Search.{has, cells, Search, Found, TooMany, Kept, Touched, FoundFirst, grown, tooMany}
+use Rattle.hops.specs.Search.{has, cells, Search, TooMany, Kept, Touched, FoundFirst, grown, tooMany}
 use Rattle.hops.proofs.Sums.{eq-or-ne, sum-append}
-use Rattle.hops.proofs.Steps.{has-yes, has-no, has-le, u-in}
+use Rattle.hops.proofs.Steps.{has-yes, has-no, has-le}
 use Rattle.hops.proofs.Partial.{label-dist}
 use Rattle.hops.proofs.Search as search
-use Rattle.brandes.specs.Order as breadth
-use Rattle.brandes.specs.Order.{joined, entriesOf, entered, predecessors}
-use Rattle.brandes.specs.Tracks.{leading, soFar, Slots, Holding, Ordered, Tracked, Traced, enters, pushed, PushPre, EnterPre, EnterPost}
-use Rattle.brandes.proofs.Order.{joined-new, joined-old, entries-more, entries-none, queue-order}
-use Rattle.brandes.proofs.Predecessors.{so-hit, so-miss, so-far, so-none, so-done, so-mem, so-most}
+use Rattle.brandes.specs.Order.{joined, entriesOf}
+use Rattle.brandes.specs.Tracks.{leading, soFar, Slots, Holding, Ordered, Tracked, pushed, PushPre, EnterPre, EnterPost}
+use Rattle.brandes.proofs.Order.{joined-new, joined-old}
+use Rattle.brandes.proofs.Predecessors.{so-hit, so-miss, so-far, so-most}
 use Rattle.brandes.proofs.Same.{queue-same, search-same}
 use Rattle.brandes.proofs.Holding.{before-next, slots-after, holding-same, holding-after, push-room, push-long, push-low, push-holding}
 

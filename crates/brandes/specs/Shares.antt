@@ -1,7 +1,7 @@
 -- Brandes' accumulation in doubles, each operation rounded once, in the Rust's order. Definitions only.
 use mathlib.Core.Bool.{cond}
 use mathlib.Core.List.{List, foldl}
-use Prim.Native.Nat.{ℕ, _+_}
+use Prim.Native.Nat.{ℕ}
 use lib.Dec.{eqb}
 use lib.IntN.{pos}
 use lib.ListN.{getD, set}

@@ -1,7 +1,5 @@
 -- `betweenness::add_start` meets its contract: search, accumulation and taking back, one after the other. Assumes nothing.
-use mathlib.Core.Path.{_≡_}
 use native.Mathlib.Omega.{arith}
-use Rattle.betweenness.specs.Starts.{StartPost}
 use Rattle.betweenness.proofs.Adding.{search-pre, start-paths, start-accumulate, start-forget, start-release, start-done}
 use borrow.Author.Needs.{needs}
 use Rattle.betweenness.proofs.add_start.Statement.{statement}

@@ -1,5 +1,4 @@
 -- `betweenness::add_starts` meets its contract: the starts before this one have been added. Assumes nothing.
-use mathlib.Core.Path.{_≡_}
 use Prim.Native.Nat.{_-_}
 use native.Mathlib.Omega.{arith}
 use Rattle.betweenness.proofs.Adding.{Added, added-none, starts-pre, starts-more, starts-paths, starts-done}

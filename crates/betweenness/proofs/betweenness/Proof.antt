@@ -1,5 +1,4 @@
 -- `betweenness::betweenness` meets its contract: a refusal by its test, PATHS and the scores by what the steps leave. Assumes nothing.
-use mathlib.Core.Path.{_≡_}
 use mathlib.Core.List.{List}
 use lib.Ieee.{Float}
 use Rattle.graph.specs.Given.{Given, given}

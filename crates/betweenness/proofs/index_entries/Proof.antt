@@ -1,6 +1,4 @@
 -- `betweenness::index_entries` meets its contract. Assumes nothing.
-use mathlib.Core.Path.{_≡_}
-use native.Mathlib.Omega.{arith}
 use Rattle.betweenness.proofs.Indexing.{index-pre, indexed}
 use borrow.Author.Needs.{needs}
 use Rattle.betweenness.proofs.index_entries.Statement.{statement}

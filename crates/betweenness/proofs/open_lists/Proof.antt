@@ -1,8 +1,7 @@
 -- `betweenness::open_lists` meets its contract: after v turns the ends of the first v nodes are written. Assumes nothing.
-use mathlib.Core.Path.{_≡_, refl, sym, ap, _∙_, subst}
-use Prim.Native.Nat.{ℕ, _+_, _-_, _≤_}
+use mathlib.Core.Path.{_≡_, subst}
+use Prim.Native.Nat.{ℕ, _-_, _≤_}
 use native.Mathlib.Omega.{arith}
-use lib.ListN.{getD}
 use Rattle.regions.specs.Region.{Copied}
 use Rattle.regions.proofs.Frames.{copied-none, copied-more, copied-source}
 use borrow.Author.Needs.{needs}

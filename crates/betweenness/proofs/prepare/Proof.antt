@@ -1,9 +1,7 @@
 -- `betweenness::prepare` meets its contract: one step after the other. Assumes nothing.
-use mathlib.Core.Path.{_≡_}
 use native.Mathlib.Omega.{arith}
 use lib.Ieee.{ofBits}
 use Rattle.betweenness.proofs.Preparing.{rows-pre, room1, index-asks, lists-apart, prepared}
-use borrow.Author.Needs.{needs}
 use Rattle.betweenness.proofs.prepare.Statement.{statement}
 use Rattle.betweenness.proofs.prepare.Tie as tie
 

@@ -1,12 +1,11 @@
 -- `brandes::accumulate` meets its contract: the nodes from place i of the queue have left. Assumes nothing.
-use mathlib.Core.Path.{_≡_, refl, sym, ap, _∙_}
-use mathlib.Core.List.{List, foldr}
-use Prim.Native.Nat.{ℕ, _+_, _-_, _≤_, _<_}
+use mathlib.Core.Path.{_≡_, refl, ap, _∙_}
+use mathlib.Core.List.{foldr}
+use Prim.Native.Nat.{ℕ, _+_, _-_, _≤_}
 use native.Mathlib.Omega.{arith}
-use lib.ListN.{length, getD, drop}
-use lib.Ieee.{Float}
+use lib.ListN.{length, drop}
 use Rattle.regions.specs.Region.{part}
-use Rattle.brandes.specs.Steps.{heldPredecessors, leftBy, LeavePre}
+use Rattle.brandes.specs.Steps.{heldPredecessors, leftBy}
 use Rattle.brandes.proofs.Folds.{foldr-none, foldr-more, foldr-all}
 use borrow.Author.Needs.{needs}
 use Rattle.brandes.proofs.accumulate.Statement.{statement}

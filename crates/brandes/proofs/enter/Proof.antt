@@ -1,6 +1,5 @@
 -- `brandes::enter` meets its contract. Assumes nothing.
-use mathlib.Core.Path.{_≡_, refl, sym, ap, _∙_}
-use native.Mathlib.Omega.{arith}
+use mathlib.Core.Path.{sym, _∙_}
 use Rattle.brandes.proofs.Entering.{push-pre, entered-yes, entered-no}
 use borrow.Author.Needs.{needs}
 use Rattle.brandes.proofs.enter.Statement.{statement}

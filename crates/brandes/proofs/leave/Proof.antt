@@ -1,11 +1,8 @@
 -- `brandes::leave` meets its contract. Assumes nothing.
-use mathlib.Core.Path.{_≡_, refl, sym, ap, _∙_}
-use mathlib.Core.List.{List}
+use mathlib.Core.Path.{_≡_, refl}
 use Prim.Native.Nat.{ℕ, _+_, _-_, _≤_, _<_}
 use native.Mathlib.Omega.{arith}
-use lib.ListN.{length, getD}
-use lib.Ieee.{Float, ofBits}
-use Rattle.brandes.specs.Steps.{LeavePre, PassPre}
+use lib.ListN.{getD}
 use Rattle.brandes.proofs.Passing.{left-start, left-other}
 use borrow.Author.Needs.{needs}
 use Rattle.brandes.proofs.leave.Statement.{statement}

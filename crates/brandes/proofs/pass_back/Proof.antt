@@ -1,13 +1,10 @@
 -- `brandes::pass_back` meets its contract: the entries before p have taken their shares. Assumes nothing.
-use mathlib.Core.Path.{_≡_, refl, sym, ap, _∙_}
-use mathlib.Core.List.{List}
-use Prim.Native.Nat.{ℕ, _+_, _-_, _≤_, _<_}
+use mathlib.Core.Path.{_≡_, refl, ap, _∙_}
+use Prim.Native.Nat.{ℕ, _-_, _≤_, _<_}
 use native.Mathlib.Omega.{arith}
-use lib.ListN.{length, getD, length-set}
-use lib.Ieee.{Float}
+use lib.ListN.{length, getD}
 use Rattle.regions.specs.Region.{part}
-use Rattle.brandes.specs.Shares.{share, grow}
-use Rattle.brandes.specs.Steps.{heldCount, passedBack}
+use Rattle.brandes.specs.Steps.{passedBack}
 use Rattle.brandes.proofs.Passing.{pass-none, pass-more}
 use borrow.Author.Needs.{needs}
 use Rattle.brandes.proofs.pass_back.Statement.{statement}

@@ -2,11 +2,9 @@
 use mathlib.Core.Path.{_≡_, subst}
 use Prim.Native.Nat.{ℕ, _+_, _≤_, _-_}
 use native.Mathlib.Omega.{arith}
-use lib.ListN.{getD}
 use lib.Ieee.{ofBits}
 use Rattle.brandes.specs.Steps.{Released}
 use Rattle.brandes.proofs.Releasing.{released-none, Turn, turn, released-more}
-use borrow.Author.Needs.{needs}
 use Rattle.brandes.proofs.release.Statement.{statement}
 use Rattle.brandes.proofs.release.Tie as tie
 

@@ -2,7 +2,6 @@
 use native.Mathlib.Omega.{arith}
 use Rattle.hops.proofs.Search.{begin-pre}
 use Rattle.brandes.proofs.Tours.{stays-then, begun-stays, track-first}
-use borrow.Author.Needs.{needs}
 use Rattle.brandes.proofs.search_from.Statement.{statement}
 use Rattle.brandes.proofs.search_from.Tie as tie
 

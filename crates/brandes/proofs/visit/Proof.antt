@@ -1,10 +1,10 @@
 -- `brandes::visit` meets its contract: at each entry the search is as `Tour` says. Assumes nothing.
-use mathlib.Core.Path.{_≡_, sym, _∙_, subst}
+use mathlib.Core.Path.{sym, _∙_}
 use mathlib.Core.Bool.{Bool}
 use mathlib.Core.List.{List}
-use Prim.Native.Nat.{ℕ, _+_, _-_, _≤_, _<_}
+use Prim.Native.Nat.{ℕ, _+_, _-_}
 use native.Mathlib.Omega.{arith}
-use lib.ListN.{length, getD}
+use lib.ListN.{getD}
 use Rattle.graph.specs.Edges.{Edge}
 use Rattle.hops.specs.Search.{graphOf}
 use Rattle.hops.proofs.Scans.{grown-most}
