@@ -1,2 +1,3 @@
 pub mod Betweenness
 pub mod Starts
+pub mod Edges

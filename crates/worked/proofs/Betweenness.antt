@@ -1,4 +1,4 @@
--- P2 and P3 of document 01, the betweenness part: whole outcomes of the call, computed from the definition that its contract cites. Assumes nothing.
+-- P2, P3 and P4 of document 01, the betweenness parts: whole outcomes, computed from the definitions. Assumes nothing.
 use mathlib.Core.Path.{_≡_, refl}
 use mathlib.Core.Bool.{true, false}
 use mathlib.Core.List.{List, [], _∷_, _++_}
@@ -16,6 +16,7 @@ use Rattle.hops.specs.Hops.{walks, seek, dist, count, exceedsBelow, exceeds}
 use Rattle.brandes.specs.Order.{holds, entriesOf, levels, copies, entered}
 use Rattle.brandes.specs.Shares.{passed, leave}
 use Rattle.betweenness.specs.Betweenness.{fromStart, scoresAfter, scaled, betweennessScores, someExceeds, betweennessOutcome}
+use Rattle.betweenness.specs.Edges.{EdgeScores, edgeScores, leaveBy, totalsFrom, totalsAfter, scaledTotal, forwardScores, backScores, two, edgeBetweennessOutcome}
 
 -- 1.0 and 0.5
 abbrev one : Float
@@ -36,6 +37,10 @@ doubled = given 3 true (0 ∷ 0 ∷ 1 ∷ []) (1 ∷ 1 ∷ 2 ∷ []) (replicate 
 abbrev pair : Given (List Float)
 pair = given 2 false (0 ∷ []) (1 ∷ []) (nan ∷ []) (replicate 2 nan) (replicate 32 7) (replicate 4 7) (replicate 16 nan)
 
+-- undirected path 0-1-2
+abbrev path : Given EdgeScores
+path = given 3 false (0 ∷ 1 ∷ []) (1 ∷ 2 ∷ []) (nan ∷ nan ∷ []) (edgeScores (replicate 3 nan) (replicate 3 nan)) (replicate 49 7) (replicate 7 7) (replicate 27 nan)
+
 pub record P2 : Type 0 where
   -- raw betweenness: 0.5 each
   pub raw : betweennessOutcome false square
@@ -46,6 +51,11 @@ pub record P3-betweenness : Type 0 where
   pub raw : betweennessOutcome false doubled
       ≡ left (done tt) (zeroF ∷ one ∷ zeroF ∷ nan ∷ []) (replicate 56 0 ++ (7 ∷ [])) (replicate 6 0 ++ (7 ∷ [])) (replicate 30 zeroF ++ (nan ∷ []))
 
+pub record P4-edges : Type 0 where
+  -- raw edge betweenness: 2 forward and back on both
+  pub raw : edgeBetweennessOutcome false path
+      ≡ left (done tt) (edgeScores (two ∷ two ∷ nan ∷ []) (two ∷ two ∷ nan ∷ [])) (replicate 48 0 ++ (7 ∷ [])) (replicate 6 0 ++ (7 ∷ [])) (replicate 26 zeroF ++ (nan ∷ []))
+
 pub p2 : P2
 unfolding betweennessOutcome betweennessScores someExceeds scoresAfter fromStart scaled leave passed entered copies levels entriesOf holds exceeds exceedsBelow dist count seek walks sumOver same neighbours newestFirst edgesFrom firstRefusal firstOf sizeWrong nodeWrong firstFault workWrong over cleared listOf ofBits ofInt add mul div
 p2 = record { raw = refl }
@@ -53,6 +63,10 @@ p2 = record { raw = refl }
 pub p3-betweenness : P3-betweenness
 unfolding betweennessOutcome betweennessScores someExceeds scoresAfter fromStart scaled leave passed entered copies levels entriesOf holds exceeds exceedsBelow dist count seek walks sumOver same neighbours newestFirst edgesFrom firstRefusal firstOf sizeWrong nodeWrong firstFault workWrong over cleared listOf ofBits ofInt add mul div
 p3-betweenness = record { raw = refl }
+
+pub p4-edges : P4-edges
+unfolding edgeBetweennessOutcome forwardScores backScores scaledTotal totalsAfter totalsFrom leaveBy someExceeds passed entered copies levels entriesOf holds exceeds exceedsBelow dist count seek walks sumOver same neighbours newestFirst edgesFrom firstRefusal firstOf sizeWrong nodeWrong firstFault workWrong over cleared listOf ofBits ofInt add mul div
+p4-edges = record { raw = refl }
 
 -- ---- beside the table
 

@@ -1,5 +1,5 @@
 -- Document 01's worked cases as one table: a row for each case, proved in the file of its layer. Assumes nothing.
-use Rattle.worked.proofs.Betweenness.{P2, p2, P3-betweenness, p3-betweenness}
+use Rattle.worked.proofs.Betweenness.{P2, p2, P3-betweenness, p3-betweenness, P4-edges, p4-edges}
 use Rattle.worked.proofs.Katz.{P7, p7}
 use Rattle.worked.proofs.Other.{P4-laplacian, p4-laplacian, P5, p5}
 use Rattle.worked.proofs.PageRank.{P6-pagerank, p6-pagerank}
@@ -12,6 +12,7 @@ pub record Table : Type 0 where
   pub survey-doubled : P3-survey
   pub betweenness-doubled : P3-betweenness
   pub laplacian-path : P4-laplacian
+  pub edges-path : P4-edges
   pub self-loop : P5
   pub pagerank-edge : P6-pagerank
   pub katz-arrow : P7
@@ -25,6 +26,7 @@ table =
       survey-doubled = p3-survey;
       betweenness-doubled = p3-betweenness;
       laplacian-path = p4-laplacian;
+      edges-path = p4-edges;
       self-loop = p5;
       pagerank-edge = p6-pagerank;
       katz-arrow = p7;
