@@ -1,0 +1,61 @@
+// What the programs that replay a list share: the numbers in front of a record, its bytes, the counts printed.
+use libc::STDIN_FILENO;
+use libc::STDOUT_FILENO;
+
+// More than any record has; it stands for what is no number.
+pub const FAULT: usize = 99999;
+
+// The number that digits spell; FAULT for what is no number.
+pub fn number(digits: &[u8]) -> usize {
+    let mut n = 0;
+    let mut i = 0;
+    while i < digits.len() {
+        n = with_digit(n, digits[i]);
+        i += 1;
+    }
+    n
+}
+
+// A number and one digit more; what is no digit or too long gives FAULT, and FAULT stays.
+fn with_digit(n: usize, b: u8) -> usize {
+    let d = text::digit(b) as usize;
+    if 9 < d {
+        return FAULT;
+    }
+    if 9999 < n {
+        return FAULT;
+    }
+    n * 10 + d
+}
+
+// Reads n bytes, if there is room for them and they are there.
+pub fn is_read(n: usize, line: &mut [u8]) -> bool {
+    if line.len() < n {
+        return false;
+    }
+    io::read_full(STDIN_FILENO, &mut line[..n]) == n
+}
+
+// So many bytes from a place on; the whole line where there are not so many.
+pub fn part(line: &[u8], at: usize, n: usize) -> &[u8] {
+    if line.len() < at {
+        return line;
+    }
+    if line.len() - at < n {
+        return line;
+    }
+    &line[at..at + n]
+}
+
+pub fn print(word: &[u8]) {
+    io::write_all(STDOUT_FILENO, word);
+}
+
+// The end of a line of counts.
+pub fn print_counts(records: u64, differ: u64) {
+    print(b" ");
+    io::print_decimal(STDOUT_FILENO, records);
+    print(b" records, ");
+    io::print_decimal(STDOUT_FILENO, differ);
+    print(b" differ\n");
+}
