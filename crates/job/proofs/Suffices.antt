@@ -25,7 +25,7 @@ use Rattle.reader.specs.Job.{jobOf, edgesOf}
 use Rattle.reply.specs.declared.Settled.the-variants.{Neither}
 use Rattle.reply.specs.Reply.{refusalText, answerText}
 use Rattle.reply.proofs.Lengths.{answer-long, election-long, refusal-long}
-use Rattle.job.specs.Scored.{Lent, settledIs, plainText, endedText, plainOf, endedOf, electedText, givenElected, eigenvectorOf, reachingOf, pagerankOf, betweennessOf, degreeOf, laplacianOf, voterankOf, katzOf, scoredText}
+use Rattle.job.specs.Scored.{Lent, settledIs, plainText, endedText, plainOf, endedOf, electedText, givenElected, eigenvectorOf, reachingOf, pagerankOf, betweennessOf, personalizedOf, degreeOf, laplacianOf, voterankOf, katzOf, scoredText}
 use Rattle.job.proofs.Seats.{count-few}
 use Rattle.job.specs.Run.{inputLimit, outputRoom, onZeros, doubles, headAnswer, jobAnswer, answerOf, saidRan, RunLeft, runLeft, runOutcome}
 use Rattle.job.specs.declared.Ran.{Ran}
@@ -62,7 +62,7 @@ measure-fits : (measure : Measure) (top : Top) (l : Lent) → top .nodes ≤ job
 unfolding scoredText
 measure-fits Betweenness top l h = plain Betweenness (top .nodes) (betweennessOf top l) h
 measure-fits Pagerank top l h = ended Pagerank (top .nodes) (pagerankOf top l) h
-measure-fits Personalized top l h = refused (numberOf Text) 1
+measure-fits Personalized top l h = ended Personalized (top .nodes) (personalizedOf top l) h
 measure-fits Eigenvector top l h = ended Eigenvector (top .nodes) (eigenvectorOf top l) h
 measure-fits Katz top l h = ended Katz (top .nodes) (katzOf top l) h
 measure-fits Reaching top l h = plain Reaching (top .nodes) (reachingOf top l) h

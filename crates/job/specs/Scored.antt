@@ -6,8 +6,7 @@ use Prim.Native.Nat.{ℕ}
 use lib.Dec.{eqb}
 use lib.ListN.{take}
 use lib.Ieee.{Float, binary64, ofBits}
-use Rattle.graph.specs.Answers.{Said, done, refusal, numberOf}
-use Rattle.graph.specs.declared.Answer.the-variants.{Text}
+use Rattle.graph.specs.Answers.{Said, done, refusal}
 use Rattle.graph.specs.Given.{Given, given}
 use Rattle.graph.specs.Left.{Left}
 use Rattle.graph.specs.declared.Rounds.{Rounds}
@@ -22,6 +21,7 @@ use Rattle.eigenvector.specs.Eigenvector.{eigenOutcome}
 use Rattle.other.specs.Reaching.{reachingOutcome}
 use Rattle.pagerank.specs.PageRank.{pagerankOutcome}
 use Rattle.betweenness.specs.Betweenness.{betweennessOutcome}
+use Rattle.pagerank.specs.Personalized.{personalizedOutcome}
 use Rattle.degree.specs.Degree.{degreeOutcome}
 use Rattle.other.specs.Laplacian.{laplacianOutcome}
 use Rattle.other.specs.VoteRank.{voterankOutcome}
@@ -127,6 +127,12 @@ betweennessOf top l = betweennessOutcome (eqb (top .option) 1) (givenScores top 
 abbrev pub betweennessText : Top → Lent → List ℕ
 betweennessText top l = plainOf Betweenness (top .nodes) (betweennessOf top l)
 
+abbrev pub personalizedOf : Top → Lent → Left (Said Rounds) (List Float)
+personalizedOf top l = personalizedOutcome (settingsOf top) false [] (givenScores top l)
+
+abbrev pub personalizedText : Top → Lent → List ℕ
+personalizedText top l = endedOf Personalized (top .nodes) (personalizedOf top l)
+
 -- degree takes no workspace
 abbrev pub givenPlaces : Top → Lent → Given (List Float)
 givenPlaces top l = given (top .nodes) (top .directed) (l .from) (l .to) (l .weight) (l .scores) [] [] []
@@ -137,11 +143,11 @@ degreeOf top l = degreeOutcome (givenPlaces top l)
 abbrev pub degreeText : Top → Lent → List ℕ
 degreeText top l = plainOf Degree (top .nodes) (degreeOf top l)
 
--- the text of a measure's answer; personalized PageRank has no call to run, and its line 1 is a fault
+-- the text of a measure's answer
 unfoldable pub scoredText : Measure → Top → Lent → List ℕ
 scoredText Betweenness top l = betweennessText top l
 scoredText Pagerank top l = pagerankText top l
-scoredText Personalized top l = refusalText (numberOf Text) 1
+scoredText Personalized top l = personalizedText top l
 scoredText Eigenvector top l = eigenvectorText top l
 scoredText Katz top l = katzText top l
 scoredText Reaching top l = reachingText top l

@@ -17,7 +17,7 @@ ghost use lib.ListN.{length, take};
 ghost use Rattle.text.specs.Written.{Written};
 ghost use Rattle.graph.specs.Answers.{numberOf, saidPlain, saidEnded, saidElected};
 ghost use Rattle.reply.specs.Reply.{refusalText};
-ghost use Rattle.job.specs.Scored.{settledIs, settingsOf, plainText, endedText, electedText, lent, laplacianText, voterankText, eigenvectorText, reachingText, pagerankText, betweennessText, degreeText, katzText, scoredText};
+ghost use Rattle.job.specs.Scored.{settledIs, settingsOf, plainText, endedText, electedText, lent, laplacianText, voterankText, eigenvectorText, reachingText, pagerankText, betweennessText, personalizedText, degreeText, katzText, scoredText};
 ghost use Rattle.job.specs.Run.{answerOf, headAnswer, saidRan, runLeft, runOutcome};
 ghost use Rattle.job.specs.Pres.{Room, Stored, Fits, Few};
 
@@ -97,7 +97,7 @@ fn answer_job(head: Head, from: &[u32], to: &[u32], bits: &[u64], output: &mut [
     )
 }
 
-// Writes the answer of a measure. Personalized PageRank has no call to run: its line 1 is a fault.
+// Writes the answer of a measure.
 fn score(
     measure: Measure,
     top: Top,
@@ -127,7 +127,17 @@ fn score(
             output,
         ),
         Measure::Pagerank => score_pagerank(top, from, to, weight, scores, w32, w64, wf, output),
-        Measure::Personalized => put_refusal(output, Answer::Text, 1),
+        Measure::Personalized => score_personalized(
+            top,
+            from,
+            to,
+            weight,
+            scores,
+            w32,
+            w64,
+            wf,
+            output,
+        ),
         Measure::Eigenvector => score_eigenvector(
             top,
             from,
@@ -270,6 +280,39 @@ fn score_betweenness(
         wf,
     );
     put_plain(output, Measure::Betweenness, nodes, said, scores)
+}
+
+fn score_personalized(
+    top: Top,
+    from: &[u32],
+    to: &[u32],
+    weight: &[f64],
+    scores: &mut [f64],
+    w32: &mut [u32],
+    w64: &mut [u64],
+    wf: &mut [f64],
+    output: &mut [u8],
+) -> usize
+    requires { ⌜ Room (now output) × Fits (top .nodes) (length (now scores)) ⌝ }
+    ensures { λ r. ⌜ Written (personalizedText top (lent (now (from .entry)) (now (to .entry)) (now (weight .entry)) (now (scores .entry)) [] (now (w32 .entry)) (now (w64 .entry)) (now (wf .entry)))) (now (output .entry)) 0 (now (output .exit)) r ⌝ }
+{
+    let nodes = top.nodes as usize;
+    let settings = settings_of(top);
+    let said = pagerank::personalized_pagerank(
+        nodes,
+        top.directed,
+        from,
+        to,
+        weight,
+        settings,
+        false,
+        &weight[..0],
+        scores,
+        w32,
+        w64,
+        wf,
+    );
+    put_ended(output, Measure::Personalized, nodes, said, scores)
 }
 
 fn score_degree(

@@ -19,8 +19,8 @@ score-pagerank-requires c κs = search needs
 enum-told-3 : tie.Need-enum-told-3
 enum-told-3 c = search needs
 
-put-refusal-requires : tie.Need-put-refusal-requires
-put-refusal-requires c κs = search needs
+score-personalized-requires : tie.Need-score-personalized-requires
+score-personalized-requires c κs = search needs
 
 enum-told-4 : tie.Need-enum-told-4
 enum-told-4 c = search needs
@@ -99,10 +99,6 @@ returns-2 c = rw (c .before .before .before .before .before .before .before .bef
 same-length-11 : tie.Need-same-length-11
 same-length-11 c = search needs
 
-returns-3 : tie.Need-returns-3
-unfolding scoredText
-returns-3 c = rw (c .before .before .before .before .enum-told3 .given .1) (c .before .before .put-refusal .ensures)
-
 same-length-12 : tie.Need-same-length-12
 same-length-12 c = search needs
 
@@ -115,12 +111,12 @@ same-length-14 c = search needs
 same-length-15 : tie.Need-same-length-15
 same-length-15 c = search needs
 
+returns-3 : tie.Need-returns-3
+unfolding scoredText
+returns-3 c = rw (c .before .before .before .before .before .before .before .before .before .before .before .before .before .before .before .before .enum-told3 .given .1) (c .before .before .before .before .before .before .before .before .before .before .score-personalized .ensures)
+
 same-length-16 : tie.Need-same-length-16
 same-length-16 c = search needs
-
-returns-4 : tie.Need-returns-4
-unfolding scoredText
-returns-4 c = rw (c .before .before .before .before .before .before .before .before .before .before .before .before .before .before .before .before .enum-told4 .given .1) (c .before .before .before .before .before .before .before .before .before .before .score-eigenvector .ensures)
 
 same-length-17 : tie.Need-same-length-17
 same-length-17 c = search needs
@@ -134,12 +130,12 @@ same-length-19 c = search needs
 same-length-20 : tie.Need-same-length-20
 same-length-20 c = search needs
 
+returns-4 : tie.Need-returns-4
+unfolding scoredText
+returns-4 c = rw (c .before .before .before .before .before .before .before .before .before .before .before .before .before .before .before .before .enum-told4 .given .1) (c .before .before .before .before .before .before .before .before .before .before .score-eigenvector .ensures)
+
 same-length-21 : tie.Need-same-length-21
 same-length-21 c = search needs
-
-returns-5 : tie.Need-returns-5
-unfolding scoredText
-returns-5 c = rw (c .before .before .before .before .before .before .before .before .before .before .before .before .before .before .before .before .enum-told5 .given .1) (c .before .before .before .before .before .before .before .before .before .before .score-katz .ensures)
 
 same-length-22 : tie.Need-same-length-22
 same-length-22 c = search needs
@@ -153,12 +149,12 @@ same-length-24 c = search needs
 same-length-25 : tie.Need-same-length-25
 same-length-25 c = search needs
 
+returns-5 : tie.Need-returns-5
+unfolding scoredText
+returns-5 c = rw (c .before .before .before .before .before .before .before .before .before .before .before .before .before .before .before .before .enum-told5 .given .1) (c .before .before .before .before .before .before .before .before .before .before .score-katz .ensures)
+
 same-length-26 : tie.Need-same-length-26
 same-length-26 c = search needs
-
-returns-6 : tie.Need-returns-6
-unfolding scoredText
-returns-6 c = rw (c .before .before .before .before .before .before .before .before .before .before .before .before .before .before .before .before .enum-told6 .given .1) (c .before .before .before .before .before .before .before .before .before .before .score-reaching .ensures)
 
 same-length-27 : tie.Need-same-length-27
 same-length-27 c = search needs
@@ -172,12 +168,12 @@ same-length-29 c = search needs
 same-length-30 : tie.Need-same-length-30
 same-length-30 c = search needs
 
+returns-6 : tie.Need-returns-6
+unfolding scoredText
+returns-6 c = rw (c .before .before .before .before .before .before .before .before .before .before .before .before .before .before .before .before .enum-told6 .given .1) (c .before .before .before .before .before .before .before .before .before .before .score-reaching .ensures)
+
 same-length-31 : tie.Need-same-length-31
 same-length-31 c = search needs
-
-returns-7 : tie.Need-returns-7
-unfolding scoredText
-returns-7 c = rw (c .before .before .before .before .before .before .before .before .before .before .before .before .before .before .before .before .enum-told7 .given .1) (c .before .before .before .before .before .before .before .before .before .before .score-voterank .ensures)
 
 same-length-32 : tie.Need-same-length-32
 same-length-32 c = search needs
@@ -191,18 +187,34 @@ same-length-34 c = search needs
 same-length-35 : tie.Need-same-length-35
 same-length-35 c = search needs
 
+returns-7 : tie.Need-returns-7
+unfolding scoredText
+returns-7 c = rw (c .before .before .before .before .before .before .before .before .before .before .before .before .before .before .before .before .enum-told7 .given .1) (c .before .before .before .before .before .before .before .before .before .before .score-voterank .ensures)
+
 same-length-36 : tie.Need-same-length-36
 same-length-36 c = search needs
-
-returns-8 : tie.Need-returns-8
-unfolding scoredText
-returns-8 c = rw (c .before .before .before .before .before .before .before .before .before .before .before .before .before .before .before .before .enum-told8 .given .1) (c .before .before .before .before .before .before .before .before .before .before .score-laplacian .ensures)
 
 same-length-37 : tie.Need-same-length-37
 same-length-37 c = search needs
 
 same-length-38 : tie.Need-same-length-38
 same-length-38 c = search needs
+
+same-length-39 : tie.Need-same-length-39
+same-length-39 c = search needs
+
+same-length-40 : tie.Need-same-length-40
+same-length-40 c = search needs
+
+returns-8 : tie.Need-returns-8
+unfolding scoredText
+returns-8 c = rw (c .before .before .before .before .before .before .before .before .before .before .before .before .before .before .before .before .enum-told8 .given .1) (c .before .before .before .before .before .before .before .before .before .before .score-laplacian .ensures)
+
+same-length-41 : tie.Need-same-length-41
+same-length-41 c = search needs
+
+same-length-42 : tie.Need-same-length-42
+same-length-42 c = search needs
 
 returns-9 : tie.Need-returns-9
 unfolding scoredText
@@ -217,7 +229,7 @@ score-spec =
     enum-told-2
     score-pagerank-requires
     enum-told-3
-    put-refusal-requires
+    score-personalized-requires
     enum-told-4
     score-eigenvector-requires
     enum-told-5
@@ -243,37 +255,41 @@ score-spec =
     same-length-10
     returns-2
     same-length-11
-    returns-3
     same-length-12
     same-length-13
     same-length-14
     same-length-15
+    returns-3
     same-length-16
-    returns-4
     same-length-17
     same-length-18
     same-length-19
     same-length-20
+    returns-4
     same-length-21
-    returns-5
     same-length-22
     same-length-23
     same-length-24
     same-length-25
+    returns-5
     same-length-26
-    returns-6
     same-length-27
     same-length-28
     same-length-29
     same-length-30
+    returns-6
     same-length-31
-    returns-7
     same-length-32
     same-length-33
     same-length-34
     same-length-35
+    returns-7
     same-length-36
-    returns-8
     same-length-37
     same-length-38
+    same-length-39
+    same-length-40
+    returns-8
+    same-length-41
+    same-length-42
     returns-9)
