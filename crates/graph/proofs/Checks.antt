@@ -1,9 +1,10 @@
 -- What a check that passed shows, and the turns of `first_fault` and `first_odd`. Assumes nothing.
 use mathlib.Core.Path.{_≡_, refl, sym, ap, _∙_}
+use mathlib.Core.Logic.{_⊎_, inl, inr}
 use mathlib.Core.Bool.{Bool, true, false, not, _||_, cond, true≢false}
 use mathlib.Core.List.{List, [], _∷_}
 use Prim.Native.Nat.{ℕ, zero, suc, _+_, _≤_, _<_}
-use native.Mathlib.Nat.{not-suc-le-zero, le-of-suc-le-suc}
+use native.Mathlib.Nat.{not-suc-le-zero, le-of-suc-le-suc, le-trans, eq-or-lt-of-le}
 use native.Mathlib.Numerals.{add-one}
 use native.Mathlib.Omega.{arith}
 use borrow.Author.Tests.{ltb-false, ltb-true, lt-ltb, le-ltb, eqb-true, not-false}
@@ -20,7 +21,7 @@ use Rattle.graph.specs.declared.Fronts.{Fronts}
 use Rattle.graph.specs.Settings.{nodeLimit, edgeLimit}
 use Rattle.graph.specs.Edges.{Edge, edge, edgesOf}
 use Rattle.graph.specs.Checks.{sizeWrong, firstFault, someFault, nodeWrong, firstOdd, someFound, numberWrong, workWrong}
-use Rattle.graph.specs.Pres.{Sized, Limits, Inside, Roomy}
+use Rattle.graph.specs.Pres.{Sized, AtMost, Limits, Inside, Roomy}
 use Rattle.graph.proofs.Edges.{edges-long, edges-at, edges-from, noEdge}
 
 -- a test of several is false when each is
@@ -85,6 +86,35 @@ node-inside n fs ts xs s e =
   where
     here : (i : ℕ) → i < length fs → i < length (edgesOf fs ts xs)
     here i l = omega (arith, edges-long fs ts xs s)
+
+-- every end is a node: NODE does not refuse
+none-wrong : (n : ℕ) (es : List Edge) → ((k : ℕ) → k < length es → (getD es k noEdge .from < n) × (getD es k noEdge .to < n)) → someFault (firstFault n es) ≡ false
+unfolding firstFault
+none-wrong n [] h = refl
+none-wrong n (e ∷ es) h = rw (lt-ltb _ _ (h 0 (omega arith) .0), lt-ltb _ _ (h 0 (omega arith) .1)) (none-wrong n es (λ k l. h (suc k) (omega arith)))
+
+pub inside-node : (n : ℕ) (fs ts : List ℕ) (xs : List Float) → Sized fs ts xs → Inside n fs ts → nodeWrong n (edgesOf fs ts xs) ≡ false
+unfolding nodeWrong
+inside-node n fs ts xs s h = none-wrong n (edgesOf fs ts xs) (λ k l. let q : k < length fs = omega (arith, edges-long fs ts xs s) in rw (edges-at fs ts xs noEdge k s q) (h .froms k q, h .tos k q))
+
+-- ---- the turns of `highest`
+
+-- none of the first i numbers is above k
+abbrev pub Top : List ℕ → ℕ → ℕ → Type 0
+Top xs i k = (j : ℕ) → j < i → getD xs j 0 ≤ k
+
+pub top-none : (xs : List ℕ) (k : ℕ) → Top xs 0 k
+top-none xs k j l = absurd (not-suc-le-zero l)
+
+pub top-more : (xs : List ℕ) (i k k′ : ℕ) → Top xs i k → k ≤ k′ → getD xs i 0 ≤ k′ → Top xs (i + 1) k′
+top-more xs i k k′ h a b j l = let q : j ≤ i = omega arith in go (eq-or-lt-of-le q)
+  where
+    go : (j ≡ i) ⊎ (j < i) → getD xs j 0 ≤ k′
+    go (inl e) = rw e b
+    go (inr m) = le-trans (h j m) a
+
+pub top-all : (xs : List ℕ) (i k : ℕ) → i ≡ length xs → Top xs i k → AtMost xs k
+top-all xs i k e h = record { at = λ j l. h j (omega arith) }
 
 -- ---- the turns of `first_fault`
 module _ (n : ℕ) (fs ts : List ℕ) (xs : List Float) (s : Sized fs ts xs) (o : Fault) (i : ℕ) where

@@ -16,6 +16,10 @@ pub record Sized (from to : List ℕ) (weight : List Float) : Type 0 where
   pub tos : length to ≡ length from
   pub weights : length weight ≡ length from
 
+-- no number of the list is above k
+pub record AtMost (xs : List ℕ) (k : ℕ) : Type 0 where
+  pub at : (i : ℕ) → i < length xs → getD xs i 0 ≤ k
+
 -- n nodes and m edges are within the limits
 pub record Limits (n m : ℕ) : Type 0 where
   pub nodes : n ≤ nodeLimit

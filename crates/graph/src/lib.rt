@@ -11,7 +11,7 @@ ghost use Rattle.graph.specs.Edges.{edgesOf};
 ghost use Rattle.graph.specs.Fronts.{usualFronts};
 ghost use Rattle.graph.specs.Checks.{sizeWrong, firstFault, someFault, nodeWrong, firstOdd, someFound, numberWrong, workWrong};
 ghost use Rattle.graph.specs.Refusals.{firstRefusal, endsTests, plainRefusal};
-ghost use Rattle.graph.specs.Pres.{Sized, Limits, Roomy};
+ghost use Rattle.graph.specs.Pres.{Sized, AtMost, Limits, Roomy};
 ghost use Rattle.graph.specs.Left.{Wiped};
 
 // Document 01's answers, in the order of their numbers.
@@ -286,12 +286,36 @@ fn any_fault(f: Fault) -> bool
     }
 }
 
-// An end that is no node.
+// An end that is no node: the highest ends tell whether there is one, without a branch for each edge.
 pub fn node_wrong(nodes: usize, from: &[u32], to: &[u32], weight: &[f64]) -> bool
     requires { ⌜ Sized (now from) (now to) (now weight) ⌝ }
     ensures { λ r. ⌜ r ≡ nodeWrong nodes (edgesOf (now (from .entry)) (now (to .entry)) (now (weight .entry))) ⌝ }
 {
+    if (highest(from) as usize) < nodes {
+        if (highest(to) as usize) < nodes {
+            return false;
+        }
+    }
     any_fault(first_fault(nodes, from, to, weight))
+}
+
+// The highest of the ends, and 0 if there is none.
+fn highest(ends: &[u32]) -> u32
+    ensures { λ r. ⌜ AtMost (now (ends .entry)) r ⌝ }
+{
+    let mut top = 0u32;
+    let mut i = 0;
+    while i < ends.len() {
+        top = higher(top, ends[i]);
+        i += 1;
+    }
+    top
+}
+
+fn higher(a: u32, b: u32) -> u32
+    ensures { λ r. ⌜ (a ≤ r) × (b ≤ r) ⌝ }
+{
+    if a < b { b } else { a }
 }
 
 // Neither an infinity nor a NaN.
