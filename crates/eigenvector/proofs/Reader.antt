@@ -1,6 +1,6 @@
 -- What a reader of `eigenvector` may rely on: no second outcome meets its contract; its scores are the start stepped exactly the reported
 -- rounds; settled "yes" implies that every score is finite. Assumes nothing.
-use mathlib.Core.Path.{_≡_, refl, sym, ap, _∙_}
+use mathlib.Core.Path.{_≡_, refl, ap, _∙_}
 use mathlib.Core.Bool.{Bool, true, false, _||_, cond}
 use mathlib.Core.List.{List}
 use Prim.Native.Nat.{ℕ, _≤_, _<_}
@@ -21,7 +21,7 @@ use Rattle.graph.specs.Refusals.{firstRefusal}
 use Rattle.graph.specs.Left.{left}
 use Rattle.graph.proofs.Refusals.{passed}
 use Rattle.graph.proofs.Left.{no-second}
-use Rattle.rounds.specs.Rounds.{Round, round, outcome}
+use Rattle.rounds.specs.Rounds.{round, outcome}
 use Rattle.rounds.specs.Says.{Says}
 use Rattle.rounds.specs.Ending.{settledOnly}
 use Rattle.rounds.specs.Vectors.{settles}

@@ -1,13 +1,13 @@
 -- The start value 1/sqrt(n) is finite, for every n that a call takes: the root of n is 1 at least. And 1e-10 is the double nearest to it. Assumes nothing.
 use mathlib.Core.Path.{_≡_, refl, sym, ap, _∙_, subst}
 use mathlib.Core.Logic.{⊎-elim}
-use mathlib.Core.Bool.{Bool, true, false, cond}
+use mathlib.Core.Bool.{true, false}
 use Prim.Native.Nat.{ℕ, zero, suc, _+_, _*_, _/_, _^_, _≤_, _<_}
 use native.Mathlib.Nat.{mul-assoc, mul-comm, mul-one, mul-right-comm, mul-le-mul, mul-le-mul-right, mul-div-cancel, le-div-iff-mul-le, le-of-mul-le-mul-right, lt-of-lt-of-le}
 use native.Mathlib.Omega.{arith}
 use borrow.Author.Tests.{ne-eqb}
 use lib.IntN.{ℤ, pos}
-use lib.Dec.{T, eqb, ltb→lt}
+use lib.Dec.{T, ltb→lt}
 use lib.Pow.{pow-pos, pow-mono, shl-lt}
 use lib.Ieee.{Float, nan, inf, fin, binary64, up, down, round, ofBits, ofInt, div, le, fits}
 use lib.Ieee.Fits.{down-pos, up-pos, ofInt-fits}
@@ -18,7 +18,7 @@ use lib.Ieee.Scale.{finite}
 use Rattle.regions.proofs.Cases.{below-or-not}
 use Rattle.roots.specs.Root.{parts, IsRoot, SquareRoot, sqrtOf}
 use Rattle.roots.proofs.Sorts.{sqrtOf-is}
-use Rattle.eigenvector.specs.Eigenvector.{one, tiny, startOf}
+use Rattle.eigenvector.specs.Eigenvector.{tiny, startOf}
 
 pub tiny-nearest : tiny ≡ round binary64 false 1 10000000000
 unfolding ofBits round

@@ -1,10 +1,9 @@
 -- The steps of `katz` put together: a round, the rounds, the call. Assumes nothing.
 use mathlib.Core.Path.{_≡_, refl, sym, ap, _∙_, subst}
-use mathlib.Core.Bool.{Bool, true, false, cond}
+use mathlib.Core.Bool.{Bool, true, false}
 use mathlib.Core.List.{List, foldl}
-use Prim.Native.Nat.{ℕ, _+_, _≤_}
+use Prim.Native.Nat.{ℕ, _≤_}
 use borrow.Author.Tests.{eq-eqb, ne-eqb}
-use lib.Dec.{eqb}
 use lib.ListN.{length}
 use lib.Ieee.{Float, lt}
 use Rattle.regions.specs.Region.{zeroF, listOf}
@@ -22,7 +21,7 @@ use Rattle.graph.specs.Refusals.{firstRefusal}
 use Rattle.graph.specs.Pres.{Passed, Ready}
 use Rattle.graph.specs.Left.{left}
 use Rattle.graph.proofs.Left.{went-on}
-use Rattle.rounds.specs.Rounds.{Round, round, outcomeFrom, outcome}
+use Rattle.rounds.specs.Rounds.{round, outcomeFrom, outcome}
 use Rattle.rounds.specs.Tests.{readsWrong, lengthWrong, iterativeTests}
 use Rattle.rounds.specs.Ending.{settledOnly, settledBy, WritePre}
 use Rattle.rounds.proofs.Tests.{iterative-ready, iterative-fits, length-right}

@@ -1,10 +1,10 @@
 -- From a settled vector to the scores of a call that answers UNSETTLED otherwise: DONE means settled, and the scores are that vector's entries. Assumes nothing.
-use mathlib.Core.Path.{_≡_, refl, sym, ap, _∙_}
+use mathlib.Core.Path.{_≡_, refl, ap, _∙_}
 use mathlib.Core.Bool.{Bool, true, false, cond}
 use mathlib.Core.List.{List, foldl, [], _∷_}
 use Prim.Native.Nat.{ℕ, _<_}
 use native.Mathlib.Omega.{arith}
-use lib.ListN.{length, getD, set, length-set}
+use lib.ListN.{length, getD, length-set}
 use lib.Dec.{eqb}
 use lib.Ieee.{Float, nan, binary64, add, mul}
 use lib.Ieee.Scale.{finite}
@@ -14,7 +14,7 @@ use Rattle.graph.specs.declared.Answer.{Answer}
 use Rattle.graph.specs.declared.Answer.the-variants.{Unsettled}
 use Rattle.graph.specs.declared.Settings.{Settings}
 use Rattle.graph.specs.declared.Rounds.{Rounds}
-use Rattle.graph.specs.Answers.{Said, done, refusal, refuses, numberOf, refusedWith}
+use Rattle.graph.specs.Answers.{Said, done, refusal, refuses, refusedWith}
 use Rattle.graph.specs.Edges.{Edge}
 use Rattle.graph.specs.Given.{Given}
 use Rattle.graph.specs.Left.{Left, untouched, unlessRefused, lateRefusal}

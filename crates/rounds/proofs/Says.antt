@@ -6,7 +6,7 @@ use Prim.Native.Nat.{ℕ, zero, suc, _+_, _≤_, _<_, zero-le}
 use native.Mathlib.Nat.{zero-add, not-suc-le-zero, eq-or-lt-of-le}
 use native.Mathlib.Numerals.{add-one}
 use native.Mathlib.Omega.{arith}
-use Rattle.rounds.specs.Rounds.{Round, Out, out, outcomeFrom, outcome}
+use Rattle.rounds.specs.Rounds.{Round, out, outcomeFrom, outcome}
 use Rattle.rounds.specs.Says.{iterate, stateAfter, metAfter, Says}
 
 module _ {S : Type 0} (step : S → Round S) (s : S) where

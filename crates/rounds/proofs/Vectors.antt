@@ -7,11 +7,10 @@ use Prim.Native.Nat.{ℕ, _+_, _≤_, _<_}
 use native.Mathlib.Nat.{zero-add}
 use native.Mathlib.Omega.{arith}
 use borrow.Author.Tests.{eq-eqb, ne-eqb}
-use lib.Dec.{eqb}
 use lib.ListN.{length, getD, set, length-set}
 use lib.Seq.{ext-getD, getD-set-same, getD-set-other}
 use lib.Ieee.{Float, nan, binary64, add, mul}
-use Rattle.regions.specs.Region.{part, listOf, Front, Frame}
+use Rattle.regions.specs.Region.{part, listOf}
 use Rattle.regions.proofs.Cases.{same-or-not}
 use Rattle.regions.proofs.Parts.{part-long, part-at, list-of-places}
 use Rattle.regions.proofs.Fronts.{front-none, front-set, front-then}

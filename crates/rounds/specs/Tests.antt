@@ -7,7 +7,7 @@ use lib.ListN.{length}
 use lib.Ieee.{Float}
 use lib.Ieee.Scale.{finite}
 use Rattle.graph.specs.Edges.{edgesOf}
-use Rattle.graph.specs.Given.{Given, edgesIn}
+use Rattle.graph.specs.Given.{Given}
 use Rattle.graph.specs.Checks.{sizeWrong, nodeWrong, numberWrong}
 use Rattle.graph.specs.Refusals.{Tests, roomWrong}
 use Rattle.rounds.specs.declared.Own.{Own}

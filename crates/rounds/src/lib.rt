@@ -5,7 +5,6 @@ use graph::Fronts;
 use graph::Refusal;
 use graph::Rounds;
 ghost use mathlib.Core.Path.{_≡_};
-ghost use lib.Ieee.Scale.{finite};
 ghost use Rattle.graph.specs.Answers.{saidEnded};
 ghost use Rattle.graph.specs.Refusals.{firstRefusal};
 ghost use Rattle.graph.specs.Left.{left};

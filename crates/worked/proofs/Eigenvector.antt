@@ -1,7 +1,7 @@
 -- Document 01's cases of eigenvector, computed from the definition that the contract of `eigenvector` cites: each a call's whole outcome. Assumes nothing.
 use mathlib.Core.Path.{_≡_, refl}
 use mathlib.Core.Bool.{true, false}
-use mathlib.Core.List.{List, [], _∷_, _++_}
+use mathlib.Core.List.{[], _∷_, _++_}
 use Prim.Native.Nat.{ℕ}
 use lib.ListN.{replicate}
 use lib.Count.{leadingZeros}
@@ -11,7 +11,7 @@ use Rattle.roots.specs.Root.{sqrtOf, rootOf, rootAt, roundRoot, isqrt}
 use Rattle.graph.specs.declared.Settings.{Settings}
 use Rattle.graph.specs.Answers.{done, refusal}
 use Rattle.graph.specs.Edges.{edgesFrom}
-use Rattle.graph.specs.Given.{Given, given}
+use Rattle.graph.specs.Given.{given}
 use Rattle.graph.specs.Checks.{sizeWrong, firstFault, nodeWrong, firstOdd, numberWrong, workWrong}
 use Rattle.graph.specs.Refusals.{firstOf, firstRefusal}
 use Rattle.graph.specs.Left.{left}

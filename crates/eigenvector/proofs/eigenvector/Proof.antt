@@ -1,5 +1,4 @@
 -- `eigenvector::eigenvector` meets its contract: a refusal by its test, the scores by what the rounds leave. Assumes nothing.
-use mathlib.Core.Path.{_≡_}
 use mathlib.Core.List.{List}
 use lib.Ieee.{Float}
 use Rattle.graph.specs.Given.{Given, given}

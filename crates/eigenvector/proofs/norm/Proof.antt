@@ -1,9 +1,8 @@
 -- `eigenvector::norm` meets its contract. Assumes nothing.
 use Prim.Native.Nat.{_≤_, _-_}
-use mathlib.Core.Path.{_≡_, refl, sym, ap, _∙_}
-use native.Mathlib.Nat.{le-refl}
+use mathlib.Core.Path.{_≡_, ap, _∙_}
 use native.Mathlib.Omega.{arith}
-use lib.Ieee.{Float, ofBits}
+use lib.Ieee.{ofBits}
 use Rattle.regions.specs.Region.{zeroF}
 use Rattle.roots.specs.Root.{sqrtOf}
 use Rattle.rounds.specs.Rounds.{after}

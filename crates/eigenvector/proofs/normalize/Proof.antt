@@ -1,13 +1,13 @@
 -- `eigenvector::normalize` meets its contract: after i nodes both vectors are rewritten up to i, and the sum has i changes. Assumes nothing.
 use Prim.Native.Nat.{_≤_, _-_}
-use mathlib.Core.Path.{_≡_, refl, sym, ap, _∙_}
+use mathlib.Core.Path.{_≡_, sym, ap, _∙_}
 use native.Mathlib.Nat.{le-refl}
 use native.Mathlib.Omega.{arith}
 use lib.ListN.{length-set}
-use lib.Ieee.{Float, nan, binary64, ofBits, div}
+use lib.Ieee.{Float, binary64, ofBits, div}
 use Rattle.regions.specs.Region.{zeroF}
 use Rattle.rounds.specs.Rounds.{after}
-use Rattle.rounds.specs.Vectors.{entry, withChange, squaredChange, currentIn, nextIn}
+use Rattle.rounds.specs.Vectors.{withChange, squaredChange, currentIn, nextIn}
 use Rattle.rounds.proofs.Rounds.{after-none}
 use Rattle.rounds.proofs.Passes.{Rewritten, rewritten-none, rewritten-more, rewritten-done, change-more}
 use Rattle.eigenvector.specs.Eigenvector.{scaled}

@@ -1,7 +1,5 @@
 -- `eigenvector::spread_edges` meets its contract: what the edges from the ith on make of the next vector is what all make of the first. Assumes nothing.
 use Prim.Native.Nat.{_≤_, _-_}
-use mathlib.Core.Path.{_≡_, refl, sym, ap, _∙_}
-use native.Mathlib.Nat.{le-refl}
 use native.Mathlib.Omega.{arith}
 use lib.ListN.{length}
 use Rattle.rounds.proofs.Passes.{Growing, growing-none, growing-more, growing-done}

@@ -1,9 +1,7 @@
 -- `katz::katz` meets its contract: a refusal by its test, the scores by what the rounds leave. Assumes nothing.
-use mathlib.Core.Path.{_≡_}
 use mathlib.Core.List.{List}
 use lib.Ieee.{Float}
 use Rattle.graph.specs.Given.{Given, given}
-use Rattle.graph.specs.Refusals.{firstRefusal}
 use Rattle.graph.specs.Pres.{Passed}
 use Rattle.graph.proofs.Refusals.{passed}
 use Rattle.graph.proofs.Left.{refused}

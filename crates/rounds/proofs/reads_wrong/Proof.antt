@@ -1,5 +1,4 @@
 -- `rounds::reads_wrong` meets its contract: each return by the tests that led to it. Assumes nothing.
-use mathlib.Core.Path.{sym, _∙_}
 use borrow.Author.Needs.{needs}
 use Rattle.rounds.proofs.Tests.{reads-weight, reads-damping, reads-tolerance, reads-vector}
 use Rattle.rounds.proofs.reads_wrong.Statement.{statement}

@@ -1,15 +1,13 @@
 -- `rounds::refusal` meets its contract: what `graph_refusal` finds comes first, then the measure's own rows, then ROOM. Assumes nothing.
-use mathlib.Core.Path.{_≡_, refl, sym, ap, _∙_}
-use mathlib.Core.Bool.{Bool, true, false, _||_}
+use mathlib.Core.Path.{_≡_, sym, ap, _∙_}
+use mathlib.Core.Bool.{Bool, false}
 use Prim.Native.Nat.{ℕ}
-use lib.ListN.{length}
 use borrow.Author.Needs.{needs}
-use Rattle.graph.specs.declared.Answer.{Answer}
 use Rattle.graph.specs.declared.Fronts.{Fronts}
 use Rattle.graph.specs.Checks.{workWrong}
 use Rattle.graph.specs.Refusals.{Tests, firstOf, firstRefusal}
 use Rattle.graph.proofs.Checks.{size-limits}
-use Rattle.graph.proofs.Refusals.{early, late, graphPart}
+use Rattle.graph.proofs.Refusals.{early, late}
 use Rattle.rounds.specs.Tests.{ownTests}
 use Rattle.rounds.proofs.Tests.{without-stray}
 use Rattle.rounds.proofs.refusal.Statement.{statement}
