@@ -41,7 +41,7 @@ pub fn make(
 // Whether a call is there.
 pub fn is_made(call: usize) -> bool {
     match call {
-        0..=4 | 6..=10 | 12..=13 => true,
+        0..=4 | 6..=13 => true,
         _ => false,
     }
 }
@@ -179,6 +179,20 @@ fn iterated(
     let given = record::word(words, own, 4) != 0;
     match record::word(words, 0, 0) {
         10 => ended(pagerank::pagerank(
+            n,
+            directed,
+            from,
+            to,
+            weight,
+            settings,
+            given,
+            vector,
+            scores,
+            w32,
+            w64,
+            wf,
+        )),
+        11 => ended(pagerank::personalized_pagerank(
             n,
             directed,
             from,
