@@ -71,12 +71,9 @@ impl Tally {
         Step::Ended
     }
 
-    // A comment has no answer. Personalized PageRank has no call to run in `job`: its texts are passed over.
+    // A comment has no answer.
     fn with(self, asked: &[u8], told: &[u8]) -> Tally {
         if told.len() == 0 {
-            return self;
-        }
-        if text::begins(b"measure=personalized\n", asked) {
             return self;
         }
         let jobs = std::num::wrapping_add_u64(self.jobs, 1);
