@@ -6,7 +6,7 @@
 int printf(const char *, ...);
 int strcmp(const char *, const char *);
 
-enum { ROOM32 = 200, ROOM64 = 40, ROOMF = 200, SLOTS = 8 };
+enum { ROOM32 = 200, ROOM64 = 40, ROOMF = 200, SLOTS = 8, OUTPUT = 32768 };
 
 static uint32_t w32[ROOM32];
 static uint64_t w64[ROOM64];
@@ -14,7 +14,7 @@ static double wf[ROOMF];
 static double scores[SLOTS], back[SLOTS];
 static uint32_t small[SLOTS];
 static uint64_t wide[SLOTS];
-static char job_answer[32769];
+static uint8_t output[OUTPUT + 1];
 
 #define WORK w32, ROOM32, w64, ROOM64, wf, ROOMF
 #define SHORT w32, 7, w64, ROOM64, wf, ROOMF
@@ -69,6 +69,8 @@ static void stir(void) {
         small[i] = 77;
         wide[i] = 77;
     }
+    for (size_t i = 0; i < sizeof output; i++)
+        output[i] = 77;
 }
 
 /* The front is zero and nothing after it was touched; results after the n-th were not touched either. */
@@ -201,17 +203,32 @@ static void katz(void) {
     expect("Katz with a long beta", refuses(r, MEADOWRUT_LENGTH));
 }
 
+/* The output begins with this text, and nothing after it was touched. */
+static int holds(const char *text, size_t length) {
+    for (size_t i = 0; i < sizeof output; i++)
+        if (output[i] != (i < length ? (uint8_t)text[i] : 77))
+            return 0;
+    return 1;
+}
+
 static void run(void) {
     static const char job[] = "measure=betweenness\nkind=undirected\nnodes=3\noption=0\nrounds=0\nfactor=0000000000000000\n"
                               "tolerance=0000000000000000\nedges=2\nedge=0,1,3ff0000000000000\nedge=1,2,3ff0000000000000\n";
     static const char want[] = "measure=betweenness\nanswer=0\nnodes=3\nrounds=0\nsettled=none\nscore=0,0000000000000000\n"
                                "score=1,3ff0000000000000\nscore=2,0000000000000000\n";
-    meadowrut_text t = meadowrut_run((const uint8_t *)job, sizeof job - 1, (uint8_t *)job_answer, 32768);
-    expect("run", t.answer == 0 && t.length == sizeof want - 1);
-    job_answer[t.length < 32768 ? t.length : 0] = 0;
-    expect("run's text", strcmp(job_answer, want) == 0);
-    t = meadowrut_run((const uint8_t *)job, sizeof job - 1, (uint8_t *)job_answer, 32767);
-    expect("run, no room", t.answer == MEADOWRUT_ROOM && t.length == 0);
+    static const char fault[] = "answer=12\nline=10\n";
+    const uint8_t *input = (const uint8_t *)job;
+    size_t length = sizeof job - 1;
+    meadowrut_text t = meadowrut_run(input, length, output, OUTPUT - 1);
+    expect("run, no room", t.answer == MEADOWRUT_ROOM && t.length == 0 && holds("", 0));
+    t = meadowrut_run(input, length, output, OUTPUT);
+    expect("run", t.answer == 0 && t.length == sizeof want - 1 && holds(want, sizeof want - 1));
+    stir();
+    t = meadowrut_run(input, length - 1, output, OUTPUT + 1);
+    expect("run without the last newline", t.answer == 0 && t.length == sizeof fault - 1 && holds(fault, sizeof fault - 1));
+    stir();
+    t = meadowrut_run(NULL, 0, output, OUTPUT);
+    expect("run of a null slice", t.answer == 0 && t.length == 17 && holds("answer=12\nline=1\n", 17));
 }
 
 static void roots(void) {

@@ -20,11 +20,13 @@ ghost use Rattle.pagerank.specs.PageRank.{pagerankOutcome};
 ghost use Rattle.pagerank.specs.Personalized.{personalizedOutcome};
 ghost use Rattle.eigenvector.specs.Eigenvector.{eigenOutcome};
 ghost use Rattle.katz.specs.Katz.{katzOutcome};
-ghost use Rattle.meadowrut.specs.Boundary.{raised, asked, returned, reported, counted, voiced, asNumber};
+ghost use Rattle.job.specs.Run.{saidRan, runOutcome};
+ghost use Rattle.meadowrut.specs.Boundary.{raised, asked, returned, reported, counted, written, runVoiced, voiced, asNumber};
 use graph::Answer;
 use graph::Elected;
 use graph::Ended;
 use graph::Rounds;
+use job::Ran;
 
 // What the iterative calls are asked.
 #[repr(C)]
@@ -48,6 +50,13 @@ pub struct Report {
 pub struct Election {
     pub answer: u32,
     pub elected: usize,
+}
+
+// What an answered job text says: how many bytes were written.
+#[repr(C)]
+pub struct Text {
+    pub answer: u32,
+    pub length: usize,
 }
 
 #[no_mangle]
@@ -434,6 +443,13 @@ pub extern "C" fn meadowrut_katz(
     report_of(ended)
 }
 
+#[no_mangle]
+pub extern "C" fn meadowrut_run(input: &[u8], output: &mut [u8]) -> Text
+    ensures { λ r. ⌜ left r (now (output .exit)) [] [] [] ≡ runVoiced (runOutcome (now (input .entry)) (now (output .entry))) ⌝ }
+{
+    text_of(job::run(input, output))
+}
+
 // The settings as the calls take them.
 fn settings_of(s: Settings) -> graph::Settings
     ensures { λ r. ⌜ r ≡ asked s ⌝ }
@@ -503,6 +519,25 @@ fn election_of(e: Elected) -> Election
             Election {
                 answer: graph::number(answer),
                 elected: 0,
+            }
+        }
+    }
+}
+
+// What `run` returned, in numbers.
+fn text_of(ran: Ran) -> Text
+    ensures { λ r. ⌜ r ≡ written (saidRan ran) ⌝ }
+{
+    match ran {
+        Ran::Written(bytes) => Text {
+            answer: 0,
+            length: bytes,
+        },
+        Ran::Refused(r) => {
+            let answer = r.answer;
+            Text {
+                answer: graph::number(answer),
+                length: 0,
             }
         }
     }

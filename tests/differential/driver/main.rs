@@ -11,7 +11,7 @@ mod limits;
 mod list;
 mod sample;
 
-use case::{Call, Case, Lists, CALLS};
+use case::{Case, Lists, CALLS};
 use expected::{orders_agree, rust_refuses_too, Built};
 use graphs::Dice;
 use std::collections::{BTreeMap, BTreeSet};
@@ -26,7 +26,7 @@ pub struct Tally {
     cases: u64,
     skipped: u64,
     wrong: u64,
-    answers: BTreeMap<(Call, u32), u64>,
+    answers: BTreeMap<(&'static str, u32), u64>,
     said: Instant,
 }
 
@@ -73,7 +73,7 @@ impl Tally {
             self.wrong(format!("{}: the Rust does not refuse where document 01 does: {case:?}", case.call.name()));
         }
         self.cases += 1;
-        *self.answers.entry((case.call, want.answer)).or_default() += 1;
+        *self.answers.entry((case.call.name(), want.answer)).or_default() += 1;
         if let Err(text) = lend::check(case, &want, self.cases) {
             let mut record = list::call_record(case, &want);
             record.truncate(2000);
@@ -83,10 +83,13 @@ impl Tally {
 
     /// Compares one job text.
     pub fn job(&mut self, text: &[u8]) {
-        let Some((_, want)) = job::answer_to(text) else {
+        let Some((answer, want)) = job::answer_to(text) else {
             self.skipped += 1;
             return;
         };
+        if self.has("run") {
+            *self.answers.entry(("run", answer)).or_default() += 1;
+        }
         self.job_answer(text, want.as_bytes());
     }
 
@@ -97,11 +100,9 @@ impl Tally {
         self.cases += 1;
         let mut output = vec![0xa5u8; 32768 + 64];
         let said = library::run(text, &mut output);
-        let good = said.answer == 0
-            && output[..said.length.min(output.len())] == *want
-            && output[said.length..].iter().all(|b| *b == 0xa5);
-        if !good {
-            let got = String::from_utf8_lossy(&output[..said.length.min(output.len())]);
+        let (got, rest) = output.split_at(said.length.min(output.len()));
+        if said.answer != 0 || got != want || rest.iter().any(|b| *b != 0xa5) {
+            let got = String::from_utf8_lossy(got);
             let shown = String::from_utf8_lossy(&text[..text.len().min(1500)]);
             self.wrong(format!("run: {said:?}\n--- job\n{shown}\n--- got\n{got}\n--- want\n{}", String::from_utf8_lossy(want)));
         }
@@ -285,7 +286,7 @@ fn main() {
     }
     if words.iter().any(|w| w == "--answers") {
         for ((call, answer), count) in &t.answers {
-            println!("  {} answer {answer}: {count}", call.name());
+            println!("  {call} answer {answer}: {count}");
         }
     }
     std::process::exit(!t.report(mode, started) as i32);
