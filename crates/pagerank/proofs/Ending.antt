@@ -18,11 +18,13 @@ use Rattle.graph.specs.Answers.{Said, done}
 use Rattle.graph.specs.Edges.{Graph, edgesOf, outWeight}
 use Rattle.graph.specs.Fronts.{usualFronts}
 use Rattle.graph.specs.Given.{Given, edgesIn, graphIn}
+use Rattle.graph.specs.Layout.{entriesAt, besideAt}
 use Rattle.graph.specs.Left.{Left, left, Wiped}
 use Rattle.graph.specs.Pres.{Ready, Passed, Limits}
 use Rattle.graph.specs.Refusals.{Tests, firstRefusal}
 use Rattle.graph.proofs.Left.{went-on}
-use Rattle.lists.specs.Lists.{sharesOf, sharesAt, weightOf, listsFront, BuildPre, Built, OutPre, OutWeights}
+use Rattle.lists.specs.Lists.{Share, share, sharesOf, sharesAt, longAt, weightOf, listsFront, BuildPre, Built, OutPre, OutWeights}
+use Rattle.lists.proofs.Reading.{shares-are}
 use Rattle.lists.proofs.Shares.{shares-built, out-weight-is}
 use Rattle.rounds.specs.declared.Own.{Own}
 use Rattle.rounds.specs.Rounds.{Round, Out, out, outcome}
@@ -31,9 +33,11 @@ use Rattle.rounds.specs.Ending.{reported, scored, WritePre}
 use Rattle.rounds.specs.Steps.{RoundsDone}
 use Rattle.rounds.specs.Vectors.{currentIn}
 use Rattle.rounds.proofs.Tests.{iterative-ready, iterative-fits, length-right}
-use Rattle.pagerank.specs.Links.{Links, linksOf, linksIn, outsIn, divisorOf, dividedAt, divided}
+use Rattle.pagerank.specs.Links.{Links, linksOf, linksIn, shareIn, sharesIn, weightsAt, outsIn, divisorOf, dividedAt, divided}
 use Rattle.pagerank.specs.PageRank.{pagerankStep, pagerankRounds, startWrong, pagerankOwn, pagerankTests, pagerankOutcome}
-use Rattle.pagerank.specs.Steps.{LinksPre, PreparePre, Prepared, writtenBy, DividePre, Divided}
+use Rattle.pagerank.specs.Steps.{LinksPre, PreparePre, Prepared, CopyPre, WeightsCopied, writtenBy, DividePre, Divided}
+use Rattle.pagerank.proofs.Turns.{shares-kept}
+use Rattle.pagerank.proofs.Nodes.{links-pre-long}
 
 -- ---- `prepare`
 module _ (n : ℕ) (directed : Bool) (fs ts : List ℕ) (xs : List Float) (w : List ℕ) (wf : List Float) (pre : PreparePre n fs ts xs w wf) where
@@ -45,22 +49,44 @@ module _ (n : ℕ) (directed : Bool) (fs ts : List ℕ) (xs : List Float) (w : L
     out-pre = record { fit = b .fit; weights = pre .sound .sized .weights; room = omega (arith, pre .floats) }
 
     module _ (wf1 : List Float) (o : OutWeights n (length fs) xs w1 wf wf1) where
-      outs-are : outsIn n wf1 ≡ listOf (outWeight directed (edgesOf fs ts xs)) n
-      outs-are =
+      pub copy-pre : CopyPre n (length fs) xs w1 wf1
+      copy-pre = record { fit = b .fit; weights = pre .sound .sized .weights; room = omega (arith, pre .floats, o .frame .long) }
+
+      outs-were : outsIn n wf1 ≡ listOf (outWeight directed (edgesOf fs ts xs)) n
+      outs-were =
           part-is nan wf1 (2 * n) n (outWeight directed (edgesOf fs ts xs)) (omega (arith, pre .floats, o .frame .long))
           (λ v l. o .at nan v l ∙ ap weightOf (shares-built n directed fs ts xs (pre .sound) w w1 b v l) ∙ sym (out-weight-is directed (edgesOf fs ts xs) v))
 
-      shares-are : listOf (sharesAt n (length fs) xs w1) n ≡ listOf (sharesOf directed (edgesOf fs ts xs)) n
-      shares-are = list-same (sharesAt n (length fs) xs w1) (sharesOf directed (edgesOf fs ts xs)) n (λ v l. shares-built n directed fs ts xs (pre .sound) w w1 b v l)
+      module _ (wf2 : List Float) (c : WeightsCopied n (length fs) xs w1 wf1 wf2) where
+        outs-are : outsIn n wf2 ≡ listOf (outWeight directed (edgesOf fs ts xs)) n
+        outs-are = frame-part nan (2 * n) n (c .frame) (omega (arith, pre .floats, o .frame .long)) (λ i l p q. omega arith) ∙ outs-were
 
-      pub prepared : Prepared n directed fs ts xs w w1 wf wf1
-      prepared =
-          record {
-            narrow = b .front;
-            floats = frame-front (4 * n) (omega arith) (o .frame);
-            links = cc (outs-are, shares-are);
-            pre = record { fit = b .fit; weights = pre .sound .sized .weights; room = omega (arith, pre .floats, o .frame .long) };
-          }
+        -- the share at the kth place of the list of v
+        weighed : (v k : ℕ) → v < n → k < longAt w1 v → shareIn n w1 wf2 (getD w1 v 0 + k) ≡ share (getD w1 (entriesAt n + (getD w1 v 0 + k)) 0) (getD xs (getD w1 (besideAt n (length fs) + (getD w1 v 0 + k)) 0) nan)
+        weighed v k l h = ap (share (getD w1 (entriesAt n + (getD w1 v 0 + k)) 0)) (c .at v (getD w1 v 0 + k) l (omega arith) (omega (arith, b .fit .rises v l)))
+
+        lists-are : listOf (sharesIn n w1 wf2) n ≡ listOf (sharesOf directed (edgesOf fs ts xs)) n
+        lists-are =
+            list-same (sharesIn n w1 wf2) (sharesOf directed (edgesOf fs ts xs)) n
+            (λ v l.
+            list-same (λ k. shareIn n w1 wf2 (getD w1 v 0 + k)) (λ k. share (getD w1 (entriesAt n + (getD w1 v 0 + k)) 0) (getD xs (getD w1 (besideAt n (length fs) + (getD w1 v 0 + k)) 0) nan)) (longAt w1 v) (λ k h. weighed v k l h)
+            ∙ sym (shares-are n (length fs) xs w1 v)
+            ∙ shares-built n directed fs ts xs (pre .sound) w w1 b v l)
+
+        pub prepared : Prepared n directed fs ts xs w w1 wf wf2
+        prepared =
+            record {
+              narrow = b .front;
+              floats = front-then (frame-front (weightsAt n + 2 * length fs) (omega arith) (o .frame)) (frame-front (weightsAt n + 2 * length fs) (omega arith) (c .frame));
+              links = cc (outs-are, lists-are);
+              pre = record {
+                rises = b .fit .rises;
+                entries = λ v l. omega (arith, b .fit .room, b .fit .inside v l);
+                nodes = b .fit .nodes;
+                weights = λ v l. omega (arith, b .fit .inside v l, pre .floats, o .frame .long, c .frame .long);
+                room = omega (arith, pre .floats, o .frame .long, c .frame .long);
+              };
+            }
 
 -- ---- `write`
 pub wrote : (n m : ℕ) (r : Rounds) (scores : List Float) (w32 w64 : List ℕ) (wf : List Float) {scores′ : List Float} {w32′ w64′ : List ℕ} {wf′ : List Float}
@@ -103,7 +129,7 @@ module _ (g : Given (List Float)) (ok : Ready g) (fits : g .nodes ≤ length (g 
 
     pub written : {wf3 x : List Float} (settings : Settings) (o : Out (List Float)) (r : Rounds) → Front wf1 (4 * g .nodes) wf3 → r .settings ≡ settings → out x (r .rounds) (r .settled) ≡ o
         → writtenBy (usualFronts (g .nodes) (length (g .from))) r x (g .results) w1 (g .w64) wf3 ≡ scored g settings o
-    written settings o r f es eo = scored-ends g settings o r (front-wide _ (omega arith) (p .narrow)) (front-wide _ (omega arith) (front-then (p .floats) f)) es eo
+    written settings o r f es eo = scored-ends g settings o r (front-wide _ (omega arith) (p .narrow)) (front-wide _ (omega arith) (front-then (p .floats) (front-wide _ (omega arith) f))) es eo
 
 -- ---- `pagerank`
 module _ (settings : Settings) (flag : Bool) (start : List Float) (g : Given (List Float)) where
@@ -132,27 +158,28 @@ module _ (settings : Settings) (flag : Bool) (start : List Float) (g : Given (Li
       divide-pre = record { long = length-right flag (length start) (g .nodes) (p .lengths); room = omega (arith, s1 .pre .room) }
 
       module _ {wf2 : List Float} {sum : Float} (es : sum ≡ divisorOf flag start (g .nodes)) (s2 : Divided (g .nodes) (listOf (dividedAt flag start sum) (g .nodes)) 0 wf1 wf2) where
-        pub run-pre : LinksPre (g .nodes) (length (g .from)) (g .weight) w1 wf2
-        run-pre = record { fit = s1 .pre .fit; weights = s1 .pre .weights; room = omega (arith, s1 .pre .room, s2 .frame .long) }
+        pub run-pre : LinksPre (g .nodes) w1 wf2
+        run-pre = links-pre-long (s1 .pre) (s2 .frame .long)
 
-        links : linksIn (g .nodes) (length (g .from)) (g .weight) w1 wf2 ≡ linksOf (graphIn g)
+        links : linksIn (g .nodes) w1 wf2 ≡ linksOf (graphIn g)
         links =
-            ap (λ (o : List Float). record { nodes = g .nodes; outs = o; shares = listOf (sharesAt (g .nodes) (length (g .from)) (g .weight) w1) (g .nodes) })
+            ap (λ (o : List Float). record { nodes = g .nodes; outs = o; shares = listOf (sharesIn (g .nodes) w1 wf2) (g .nodes) })
             (frame-part nan (2 * g .nodes) (g .nodes) (s2 .frame) (omega (arith, s1 .pre .room)) (λ i l a b. omega arith))
+            ∙ ap (λ (x : List (List Share)). record { nodes = g .nodes; outs = outsIn (g .nodes) wf1; shares = x }) (shares-kept (g .nodes) w1 (frame-front (4 * g .nodes) (omega arith) (s2 .frame)))
             ∙ s1 .links
 
         begins : currentIn (g .nodes) wf2 ≡ divided flag start (g .nodes)
         unfolding divided
         begins = s2 .there ∙ ap (λ (z : Float). listOf (dividedAt flag start z) (g .nodes)) es
 
-        rounds-are : outcome (eqb (g .nodes) 0) (pagerankStep (linksIn (g .nodes) (length (g .from)) (g .weight) w1 wf2) (settings .damping) (settings .tolerance)) (settings .limit) (currentIn (g .nodes) wf2)
+        rounds-are : outcome (eqb (g .nodes) 0) (pagerankStep (linksIn (g .nodes) w1 wf2) (settings .damping) (settings .tolerance)) (settings .limit) (currentIn (g .nodes) wf2)
             ≡ pagerankRounds (linksOf (graphIn g)) settings flag start
         unfolding pagerankRounds
         rounds-are =
             ap (λ (l : Links). outcome (eqb (g .nodes) 0) (pagerankStep l (settings .damping) (settings .tolerance)) (settings .limit) (currentIn (g .nodes) wf2)) links
             ∙ ap (outcome (eqb (g .nodes) 0) (pagerankStep (linksOf (graphIn g)) (settings .damping) (settings .tolerance)) (settings .limit)) begins
 
-        module _ {wf3 : List Float} {r : Rounds} (s3 : RoundsDone (g .nodes) settings (outcome (eqb (g .nodes) 0) (pagerankStep (linksIn (g .nodes) (length (g .from)) (g .weight) w1 wf2) (settings .damping) (settings .tolerance)) (settings .limit) (currentIn (g .nodes) wf2)) wf2 r wf3) where
+        module _ {wf3 : List Float} {r : Rounds} (s3 : RoundsDone (g .nodes) settings (outcome (eqb (g .nodes) 0) (pagerankStep (linksIn (g .nodes) w1 wf2) (settings .damping) (settings .tolerance)) (settings .limit) (currentIn (g .nodes) wf2)) wf2 r wf3) where
           pub moved : Front wf1 (4 * g .nodes) wf3
           moved = front-then (frame-front (4 * g .nodes) (omega arith) (s2 .frame)) (front-wide (4 * g .nodes) (omega arith) (s3 .front))
 

@@ -4,3 +4,4 @@ pub mod Ending
 pub mod Personal
 pub mod Changes
 pub mod Reader
+pub mod Weights

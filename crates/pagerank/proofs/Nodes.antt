@@ -14,29 +14,28 @@ use Rattle.regions.proofs.Fronts.{front-none, front-then}
 use Rattle.regions.proofs.Frames.{frame-front, frame-part, filled-part}
 use Rattle.graph.specs.declared.Settings.{Settings}
 use Rattle.graph.specs.declared.Rounds.{Rounds}
-use Rattle.lists.specs.Lists.{sharesAt}
 use Rattle.rounds.specs.Rounds.{after, Round, round, Out, out, outcomeFrom, outcome}
 use Rattle.rounds.specs.Vectors.{entry, currentIn, nextIn, Vectors}
 use Rattle.rounds.proofs.Rounds.{rest, rounds-more, rounds-met, rounds-over, rounds-before}
 use Rattle.rounds.proofs.Vectors.{vectors-then, vectors-are}
 use Rattle.rounds.specs.Steps.{RoundsDone}
 use Rattle.pagerank.specs.declared.Turn.{Turn}
-use Rattle.pagerank.specs.Links.{Links, linksIn, outsIn, one, double, gives, distributes, absoluteChange, settles}
+use Rattle.pagerank.specs.Links.{Links, linksIn, sharesIn, outsIn, one, double, gives, distributes, absoluteChange, settles}
 use Rattle.pagerank.specs.PageRank.{danglingSum, pagerankBase, pagerankNode, pagerankNext, pagerankStep}
 use Rattle.pagerank.specs.Steps.{LinksPre, Advanced, RoundDone}
 use Rattle.pagerank.proofs.Turns.{vectors-none, outs-kept, links-kept, out-at, distributed}
 
 -- ---- one node
-module _ (n m : ℕ) (weight : List Float) (w : List ℕ) (d : Float) (v : ℕ) (wf : List Float) (l : v < n) where
+module _ (n : ℕ) (w : List ℕ) (d : Float) (v : ℕ) (wf : List Float) (l : v < n) where
   abbrev Node : List Float → Type 0
-  Node wf′ = Vectors n wf (currentIn n wf) (pagerankNode (linksIn n m weight w wf) d (currentIn n wf) v (nextIn n wf)) wf′
+  Node wf′ = Vectors n wf (currentIn n wf) (pagerankNode (linksIn n w wf) d (currentIn n wf) v (nextIn n wf)) wf′
 
   pub node-gives : {wf′ : List Float} → lt zeroF (getD wf (2 * n + v) nan) ≡ true
-      → Vectors n wf (currentIn n wf) (foldl (gives (div binary64 (mul binary64 d (getD wf v nan)) (getD wf (2 * n + v) nan))) (nextIn n wf) (sharesAt n m weight w v)) wf′ → Node wf′
+      → Vectors n wf (currentIn n wf) (foldl (gives (div binary64 (mul binary64 d (getD wf v nan)) (getD wf (2 * n + v) nan))) (nextIn n wf) (sharesIn n w wf v)) wf′ → Node wf′
   unfolding pagerankNode
   node-gives t s =
       let b : lt zeroF (entry (outsIn n wf) v) ≡ true = ap (lt zeroF) (sym (out-at n wf v l)) ∙ t in
-      rw b (distributed n m weight w d v wf l s)
+      rw b (distributed n w d v wf l s)
 
   pub node-keeps : lt zeroF (getD wf (2 * n + v) nan) ≡ false → Node wf
   unfolding pagerankNode
@@ -45,6 +44,10 @@ module _ (n m : ℕ) (weight : List Float) (w : List ℕ) (d : Float) (v : ℕ) 
       rw b (vectors-none n wf refl)
 
 -- ---- one round
+pub links-pre-long : {n : ℕ} {w : List ℕ} {wf wf′ : List Float} → LinksPre n w wf → length wf′ ≡ length wf → LinksPre n w wf′
+links-pre-long p e =
+    record { rises = p .rises; entries = p .entries; nodes = p .nodes; weights = λ v l. omega (arith, p .weights v l); room = omega (arith, p .room) }
+
 pub filled-vectors : (n : ℕ) {wf wf′ : List Float} {b : Float} → n + n ≤ length wf → Filled wf n n b wf′ → Vectors n wf (currentIn n wf) (listOf (λ _. b) n) wf′
 filled-vectors n room f =
     record {
@@ -61,31 +64,31 @@ advanced-round n next {wf} {wf2} {wf3} {t} room s a =
       front = front-then (s .front) (a .front);
       current = a .current ∙ s .next;
       change = a .change ∙ ap (λ (x : List Float). absoluteChange n x (nextIn n wf2)) (s .current) ∙ ap (absoluteChange n (currentIn n wf)) (sym (a .current));
-      dangling = a .dangling ∙ ap (λ (o : List Float). danglingSum n o (nextIn n wf2)) (outs-kept n n wf [] room (s .front)) ∙ ap (danglingSum n (outsIn n wf)) (sym (a .current));
+      dangling = a .dangling ∙ ap (λ (o : List Float). danglingSum n o (nextIn n wf2)) (outs-kept n [] room (s .front)) ∙ ap (danglingSum n (outsIn n wf)) (sym (a .current));
     }
 
-module _ (n m : ℕ) (weight : List Float) (w : List ℕ) (d : Float) (wf : List Float) (pre : LinksPre n m weight w wf) where
-  pub pre-kept : {wf′ : List Float} → Front wf (n + n) wf′ → LinksPre n m weight w wf′
-  pre-kept f = record { fit = pre .fit; weights = pre .weights; room = omega (arith, pre .room, f .long) }
+module _ (n : ℕ) (w : List ℕ) (d : Float) (wf : List Float) (pre : LinksPre n w wf) where
+  pub pre-kept : {wf′ : List Float} → Front wf (n + n) wf′ → LinksPre n w wf′
+  pre-kept f = links-pre-long pre (f .long)
 
   module _ {wf1 : List Float} {dangling base : Float} (ed : dangling ≡ danglingSum n (outsIn n wf) (currentIn n wf)) (eb : base ≡ pagerankBase n d dangling) (f : Filled wf n n base wf1) where
     begun : Vectors n wf (currentIn n wf) (listOf (λ _. base) n) wf1
     begun = filled-vectors n (omega (arith, pre .room)) f
 
-    pub spread-pre : LinksPre n m weight w wf1
+    pub spread-pre : LinksPre n w wf1
     spread-pre = pre-kept (begun .front)
 
-    pub round-done : {wf2 wf3 : List Float} {t : Turn} → Vectors n wf1 (currentIn n wf1) (after (pagerankNode (linksIn n m weight w wf1) d (currentIn n wf1)) n (nextIn n wf1)) wf2 → Advanced n (outsIn n wf2) wf2 t wf3
-        → RoundDone n (outsIn n wf) (pagerankNext (linksIn n m weight w wf) d) wf t wf3
+    pub round-done : {wf2 wf3 : List Float} {t : Turn} → Vectors n wf1 (currentIn n wf1) (after (pagerankNode (linksIn n w wf1) d (currentIn n wf1)) n (nextIn n wf1)) wf2 → Advanced n (outsIn n wf2) wf2 t wf3
+        → RoundDone n (outsIn n wf) (pagerankNext (linksIn n w wf) d) wf t wf3
     unfolding pagerankNext
     round-done s a =
-        advanced-round n (pagerankNext (linksIn n m weight w wf) d) (pre .room)
+        advanced-round n (pagerankNext (linksIn n w wf) d) (pre .room)
         (vectors-then begun
         (vectors-are (begun .current)
-        (ap (λ (l : Links). after (pagerankNode l d (currentIn n wf1)) n (nextIn n wf1)) (links-kept n m weight w (pre .room) (begun .front))
-        ∙ ap (λ (x : List Float). after (pagerankNode (linksIn n m weight w wf) d x) n (nextIn n wf1)) (begun .current)
-        ∙ ap (after (pagerankNode (linksIn n m weight w wf) d (currentIn n wf)) n) (begun .next)
-        ∙ ap (λ (b : Float). after (pagerankNode (linksIn n m weight w wf) d (currentIn n wf)) n (listOf (λ _. b) n)) (eb ∙ ap (pagerankBase n d) ed))
+        (ap (λ (l : Links). after (pagerankNode l d (currentIn n wf1)) n (nextIn n wf1)) (links-kept n w (pre .room) (begun .front))
+        ∙ ap (λ (x : List Float). after (pagerankNode (linksIn n w wf) d x) n (nextIn n wf1)) (begun .current)
+        ∙ ap (after (pagerankNode (linksIn n w wf) d (currentIn n wf)) n) (begun .next)
+        ∙ ap (λ (b : Float). after (pagerankNode (linksIn n w wf) d (currentIn n wf)) n (listOf (λ _. b) n)) (eb ∙ ap (pagerankBase n d) ed))
         s))
         a
 
@@ -95,17 +98,17 @@ unfolding pagerankBase
 base-is n d dangling e = rw e
 
 -- a round reads the same links as the first
-module _ (n m : ℕ) (weight : List Float) (w : List ℕ) (d : Float) {wf₀ wf : List Float} (pre : LinksPre n m weight w wf₀) (front : Front wf₀ (n + n) wf) where
-  pub round-pre : {dangling : Float} → dangling ≡ danglingSum n (outsIn n wf₀) (currentIn n wf) → LinksPre n m weight w wf × (dangling ≡ danglingSum n (outsIn n wf) (currentIn n wf))
-  round-pre e = (pre-kept n m weight w d wf₀ pre front, e ∙ ap (λ (o : List Float). danglingSum n o (currentIn n wf)) (sym (outs-kept n m weight w (pre .room) front)))
+module _ (n : ℕ) (w : List ℕ) (d : Float) {wf₀ wf : List Float} (pre : LinksPre n w wf₀) (front : Front wf₀ (n + n) wf) where
+  pub round-pre : {dangling : Float} → dangling ≡ danglingSum n (outsIn n wf₀) (currentIn n wf) → LinksPre n w wf × (dangling ≡ danglingSum n (outsIn n wf) (currentIn n wf))
+  round-pre e = (pre-kept n w d wf₀ pre front, e ∙ ap (λ (o : List Float). danglingSum n o (currentIn n wf)) (sym (outs-kept n w (pre .room) front)))
 
-  pub round-kept : {t : Turn} {wf′ : List Float} → RoundDone n (outsIn n wf) (pagerankNext (linksIn n m weight w wf) d) wf t wf′ → RoundDone n (outsIn n wf₀) (pagerankNext (linksIn n m weight w wf₀) d) wf t wf′
+  pub round-kept : {t : Turn} {wf′ : List Float} → RoundDone n (outsIn n wf) (pagerankNext (linksIn n w wf) d) wf t wf′ → RoundDone n (outsIn n wf₀) (pagerankNext (linksIn n w wf₀) d) wf t wf′
   round-kept {t} {wf′} r =
       record {
         front = r .front;
-        current = r .current ∙ ap (λ (l : Links). pagerankNext l d (currentIn n wf)) (links-kept n m weight w (pre .room) front);
+        current = r .current ∙ ap (λ (l : Links). pagerankNext l d (currentIn n wf)) (links-kept n w (pre .room) front);
         change = r .change;
-        dangling = r .dangling ∙ ap (λ (o : List Float). danglingSum n o (currentIn n wf′)) (outs-kept n m weight w (pre .room) front);
+        dangling = r .dangling ∙ ap (λ (o : List Float). danglingSum n o (currentIn n wf′)) (outs-kept n w (pre .room) front);
       }
 
 -- ---- rounds, of which k are done

@@ -22,7 +22,7 @@ use Rattle.graph.specs.Left.{Left}
 use Rattle.graph.specs.Pres.{Ready, Passed}
 use Rattle.graph.specs.Refusals.{firstRefusal}
 use Rattle.graph.proofs.Left.{went-on}
-use Rattle.lists.specs.Lists.{sharesAt}
+use Rattle.lists.specs.Lists.{Share}
 use Rattle.rounds.specs.Rounds.{after, Round, round, Out, out, outcomeFrom, outcome}
 use Rattle.rounds.specs.Steps.{RoundsDone}
 use Rattle.rounds.specs.Tests.{readsWrong, lengthWrong, iterativeTests}
@@ -31,12 +31,12 @@ use Rattle.rounds.specs.Vectors.{entry, currentIn, nextIn, Vectors}
 use Rattle.rounds.proofs.Vectors.{current-at, next-at, next-set, vectors-then, vectors-are}
 use Rattle.rounds.proofs.Tests.{iterative-ready, iterative-fits, length-right}
 use Rattle.pagerank.specs.declared.Turn.{Turn}
-use Rattle.pagerank.specs.Links.{Links, linksOf, linksIn, outsIn, double, gives, distributes, sumOf, divisorOf, dividedAt, divided, settles}
+use Rattle.pagerank.specs.Links.{Links, linksOf, linksIn, sharesIn, outsIn, double, gives, distributes, sumOf, divisorOf, dividedAt, divided, settles}
 use Rattle.pagerank.specs.PageRank.{danglingSum}
 use Rattle.pagerank.specs.Personalized.{personalIn, personalBase, gainsPart, spreadsPersonal, personalNode, personalNext, personalStep, countsOf, personalOf, personalRounds, dampingWrong, personalOwn, personalTests, personalizedOutcome}
 use Rattle.pagerank.specs.Steps.{LinksPre, Prepared, writtenBy, DividePre, Divided, Advanced, RoundDone, PersonalPre, PersonalBegun}
-use Rattle.pagerank.proofs.Turns.{region-kept, outs-kept, links-kept, out-at, distributed, nodes-more}
-use Rattle.pagerank.proofs.Nodes.{advanced-round, pre-kept, Running, run-some}
+use Rattle.pagerank.proofs.Turns.{region-kept, shares-kept, outs-kept, links-kept, out-at, distributed, nodes-more}
+use Rattle.pagerank.proofs.Nodes.{advanced-round, links-pre-long, pre-kept, Running, run-some}
 use Rattle.pagerank.proofs.Ending.{written}
 
 -- ---- the personalization in the workspace
@@ -44,7 +44,7 @@ pub personal-at : (n : ℕ) (wf : List Float) (j : ℕ) → j < n → getD wf (3
 personal-at n wf j l = sym (part-at wf (3 * n) n nan j l)
 
 pub personal-kept : (n : ℕ) {wf wf′ : List Float} → 4 * n ≤ length wf → Front wf (n + n) wf′ → personalIn n wf′ ≡ personalIn n wf
-personal-kept n {wf} room front = region-kept n n wf [] room front (3 * n) (omega arith) (omega arith)
+personal-kept n {wf} room front = region-kept n [] room front (3 * n) (omega arith) (omega arith)
 
 -- ---- `dangle`
 module _ (n : ℕ) (c : Float) (wf₀ : List Float) (room : 4 * n ≤ length wf₀) where
@@ -58,16 +58,16 @@ module _ (n : ℕ) (c : Float) (wf₀ : List Float) (room : 4 * n ≤ length wf�
       ∙ ap (λ (p : List Float). gainsPart c p j (nextIn n wf)) (personal-kept n room (s .front)))
 
 -- ---- one node
-module _ (n m : ℕ) (weight : List Float) (w : List ℕ) (d : Float) (v : ℕ) (wf : List Float) (l : v < n) where
+module _ (n : ℕ) (w : List ℕ) (d : Float) (v : ℕ) (wf : List Float) (l : v < n) where
   abbrev Node : List Float → Type 0
-  Node wf′ = Vectors n wf (currentIn n wf) (personalNode (linksIn n m weight w wf) d (personalIn n wf) (currentIn n wf) v (nextIn n wf)) wf′
+  Node wf′ = Vectors n wf (currentIn n wf) (personalNode (linksIn n w wf) d (personalIn n wf) (currentIn n wf) v (nextIn n wf)) wf′
 
   pub personal-gives : {wf′ : List Float} → lt zeroF (getD wf (2 * n + v) nan) ≡ true
-      → Vectors n wf (currentIn n wf) (foldl (gives (div binary64 (mul binary64 d (getD wf v nan)) (getD wf (2 * n + v) nan))) (nextIn n wf) (sharesAt n m weight w v)) wf′ → Node wf′
+      → Vectors n wf (currentIn n wf) (foldl (gives (div binary64 (mul binary64 d (getD wf v nan)) (getD wf (2 * n + v) nan))) (nextIn n wf) (sharesIn n w wf v)) wf′ → Node wf′
   unfolding personalNode
   personal-gives t s =
       let b : lt zeroF (entry (outsIn n wf) v) ≡ true = ap (lt zeroF) (sym (out-at n wf v l)) ∙ t in
-      rw b (distributed n m weight w d v wf l s)
+      rw b (distributed n w d v wf l s)
 
   pub personal-dangles : {wf′ : List Float} → lt zeroF (getD wf (2 * n + v) nan) ≡ false
       → Vectors n wf (currentIn n wf) (after (gainsPart (mul binary64 d (getD wf v nan)) (personalIn n wf)) n (nextIn n wf)) wf′ → Node wf′
@@ -77,7 +77,7 @@ module _ (n m : ℕ) (weight : List Float) (w : List ℕ) (d : Float) (v : ℕ) 
       rw b (vectors-are refl (ap (λ (x : Float). after (gainsPart (mul binary64 d x) (personalIn n wf)) n (nextIn n wf)) (current-at n wf v l)) s)
 
 -- ---- one round
-module _ (n m : ℕ) (weight : List Float) (w : List ℕ) (d : Float) (wf : List Float) (pre : LinksPre n m weight w wf) where
+module _ (n : ℕ) (w : List ℕ) (d : Float) (wf : List Float) (pre : LinksPre n w wf) where
   module _ {wf1 : List Float} (b : Divided n (listOf (personalBase d (personalIn n wf)) n) n wf wf1) where
     begun : Vectors n wf (currentIn n wf) (listOf (personalBase d (personalIn n wf)) n) wf1
     begun =
@@ -87,35 +87,35 @@ module _ (n m : ℕ) (weight : List Float) (w : List ℕ) (d : Float) (wf : List
           next = b .there;
         }
 
-    pub personal-spread-pre : LinksPre n m weight w wf1
-    personal-spread-pre = pre-kept n m weight w d wf pre (begun .front)
+    pub personal-spread-pre : LinksPre n w wf1
+    personal-spread-pre = pre-kept n w d wf pre (begun .front)
 
     pub personal-round-done : {wf2 wf3 : List Float} {t : Turn}
-        → Vectors n wf1 (currentIn n wf1) (after (personalNode (linksIn n m weight w wf1) d (personalIn n wf1) (currentIn n wf1)) n (nextIn n wf1)) wf2 → Advanced n (outsIn n wf2) wf2 t wf3
-        → RoundDone n (outsIn n wf) (personalNext (linksIn n m weight w wf) d (personalIn n wf)) wf t wf3
+        → Vectors n wf1 (currentIn n wf1) (after (personalNode (linksIn n w wf1) d (personalIn n wf1) (currentIn n wf1)) n (nextIn n wf1)) wf2 → Advanced n (outsIn n wf2) wf2 t wf3
+        → RoundDone n (outsIn n wf) (personalNext (linksIn n w wf) d (personalIn n wf)) wf t wf3
     unfolding personalNext
     personal-round-done s a =
-        advanced-round n (personalNext (linksIn n m weight w wf) d (personalIn n wf)) (pre .room)
+        advanced-round n (personalNext (linksIn n w wf) d (personalIn n wf)) (pre .room)
         (vectors-then begun
         (vectors-are (begun .current)
-        (ap (λ (l : Links). after (personalNode l d (personalIn n wf1) (currentIn n wf1)) n (nextIn n wf1)) (links-kept n m weight w (pre .room) (begun .front))
-        ∙ ap (λ (p : List Float). after (personalNode (linksIn n m weight w wf) d p (currentIn n wf1)) n (nextIn n wf1)) (personal-kept n (pre .room) (begun .front))
-        ∙ ap (λ (x : List Float). after (personalNode (linksIn n m weight w wf) d (personalIn n wf) x) n (nextIn n wf1)) (begun .current)
-        ∙ ap (after (personalNode (linksIn n m weight w wf) d (personalIn n wf) (currentIn n wf)) n) (begun .next))
+        (ap (λ (l : Links). after (personalNode l d (personalIn n wf1) (currentIn n wf1)) n (nextIn n wf1)) (links-kept n w (pre .room) (begun .front))
+        ∙ ap (λ (p : List Float). after (personalNode (linksIn n w wf) d p (currentIn n wf1)) n (nextIn n wf1)) (personal-kept n (pre .room) (begun .front))
+        ∙ ap (λ (x : List Float). after (personalNode (linksIn n w wf) d (personalIn n wf) x) n (nextIn n wf1)) (begun .current)
+        ∙ ap (after (personalNode (linksIn n w wf) d (personalIn n wf) (currentIn n wf)) n) (begun .next))
         s))
         a
 
 -- a round reads the same links and personalization as the first
-pub personal-round-kept : (n m : ℕ) (weight : List Float) (w : List ℕ) (d : Float) {wf₀ wf : List Float} → LinksPre n m weight w wf₀ → Front wf₀ (n + n) wf → {t : Turn} {wf′ : List Float}
-    → RoundDone n (outsIn n wf) (personalNext (linksIn n m weight w wf) d (personalIn n wf)) wf t wf′ → RoundDone n (outsIn n wf₀) (personalNext (linksIn n m weight w wf₀) d (personalIn n wf₀)) wf t wf′
-personal-round-kept n m weight w d {wf₀} {wf} pre front {t} {wf′} r =
+pub personal-round-kept : (n : ℕ) (w : List ℕ) (d : Float) {wf₀ wf : List Float} → LinksPre n w wf₀ → Front wf₀ (n + n) wf → {t : Turn} {wf′ : List Float}
+    → RoundDone n (outsIn n wf) (personalNext (linksIn n w wf) d (personalIn n wf)) wf t wf′ → RoundDone n (outsIn n wf₀) (personalNext (linksIn n w wf₀) d (personalIn n wf₀)) wf t wf′
+personal-round-kept n w d {wf₀} {wf} pre front {t} {wf′} r =
     record {
       front = r .front;
       current = r .current
-          ∙ ap (λ (l : Links). personalNext l d (personalIn n wf) (currentIn n wf)) (links-kept n m weight w (pre .room) front)
-          ∙ ap (λ (p : List Float). personalNext (linksIn n m weight w wf₀) d p (currentIn n wf)) (personal-kept n (pre .room) front);
+          ∙ ap (λ (l : Links). personalNext l d (personalIn n wf) (currentIn n wf)) (links-kept n w (pre .room) front)
+          ∙ ap (λ (p : List Float). personalNext (linksIn n w wf₀) d p (currentIn n wf)) (personal-kept n (pre .room) front);
       change = r .change;
-      dangling = r .dangling ∙ ap (λ (o : List Float). danglingSum n o (currentIn n wf′)) (outs-kept n m weight w (pre .room) front);
+      dangling = r .dangling ∙ ap (λ (o : List Float). danglingSum n o (currentIn n wf′)) (outs-kept n w (pre .room) front);
     }
 
 pub personal-is : (l : Links) (d tolerance : Float) (p x : List Float) → personalStep l d tolerance p x ≡ round (personalNext l d p x) (settles tolerance (l .nodes) x (personalNext l d p x))
@@ -200,16 +200,19 @@ module _ (settings : Settings) (flag : Bool) (vector : List Float) (g : Given (L
       personal-pre = record { long = length-right flag (length vector) (g .nodes) (p .lengths); room = s1 .pre .room }
 
       module _ {wf2 : List Float} (s2 : PersonalBegun (g .nodes) (personalOf flag vector (g .nodes)) wf1 wf2) where
-        pub personal-run-pre : LinksPre (g .nodes) (length (g .from)) (g .weight) w1 wf2
-        personal-run-pre = record { fit = s1 .pre .fit; weights = s1 .pre .weights; room = omega (arith, s1 .pre .room, s2 .front .long) }
+        pub personal-run-pre : LinksPre (g .nodes) w1 wf2
+        personal-run-pre = links-pre-long (s1 .pre) (s2 .front .long)
 
-        links : linksIn (g .nodes) (length (g .from)) (g .weight) w1 wf2 ≡ linksOf (graphIn g)
-        links = ap (λ (o : List Float). record { nodes = g .nodes; outs = o; shares = listOf (sharesAt (g .nodes) (length (g .from)) (g .weight) w1) (g .nodes) }) (s2 .outs) ∙ s1 .links
+        links : linksIn (g .nodes) w1 wf2 ≡ linksOf (graphIn g)
+        links =
+            ap (λ (o : List Float). record { nodes = g .nodes; outs = o; shares = listOf (sharesIn (g .nodes) w1 wf2) (g .nodes) }) (s2 .outs)
+            ∙ ap (λ (x : List (List Share)). record { nodes = g .nodes; outs = outsIn (g .nodes) wf1; shares = x }) (shares-kept (g .nodes) w1 (s2 .front))
+            ∙ s1 .links
 
         abbrev Stepping : Links → List Float → List Float → Round (List Float)
         Stepping l q = personalStep l (settings .damping) (settings .tolerance) q
 
-        rounds-are : outcome (eqb (g .nodes) 0) (Stepping (linksIn (g .nodes) (length (g .from)) (g .weight) w1 wf2) (personalIn (g .nodes) wf2)) (settings .limit) (currentIn (g .nodes) wf2)
+        rounds-are : outcome (eqb (g .nodes) 0) (Stepping (linksIn (g .nodes) w1 wf2) (personalIn (g .nodes) wf2)) (settings .limit) (currentIn (g .nodes) wf2)
             ≡ personalRounds (linksOf (graphIn g)) settings flag vector
         unfolding personalRounds
         rounds-are =
@@ -218,7 +221,7 @@ module _ (settings : Settings) (flag : Bool) (vector : List Float) (g : Given (L
             ∙ ap (outcome (eqb (g .nodes) 0) (Stepping (linksOf (graphIn g)) (personalOf flag vector (g .nodes))) (settings .limit)) (s2 .current)
 
         module _ {wf3 : List Float} {r : Rounds}
-            (s3 : RoundsDone (g .nodes) settings (outcomeFrom (Stepping (linksIn (g .nodes) (length (g .from)) (g .weight) w1 wf2) (personalIn (g .nodes) wf2)) (settings .limit) 0 (currentIn (g .nodes) wf2)) wf2 r wf3) where
+            (s3 : RoundsDone (g .nodes) settings (outcomeFrom (Stepping (linksIn (g .nodes) w1 wf2) (personalIn (g .nodes) wf2)) (settings .limit) 0 (currentIn (g .nodes) wf2)) wf2 r wf3) where
           pub personal-moved : Front wf1 (4 * g .nodes) wf3
           personal-moved = front-then (s2 .front) (front-wide (4 * g .nodes) (omega arith) (s3 .front))
 
@@ -226,7 +229,7 @@ module _ (settings : Settings) (flag : Bool) (vector : List Float) (g : Given (L
               → o ≡ personalizedOutcome settings flag vector g
           unfolding personalizedOutcome
           personal-ended e =
-              let done = run-some (g .nodes) (Stepping (linksIn (g .nodes) (length (g .from)) (g .weight) w1 wf2) (personalIn (g .nodes) wf2)) settings wf2 some-nodes s3 in
+              let done = run-some (g .nodes) (Stepping (linksIn (g .nodes) w1 wf2) (personalIn (g .nodes) wf2)) settings wf2 some-nodes s3 in
               e
               ∙ written g personal-ready personal-fits s1 settings (personalRounds (linksOf (graphIn g)) settings flag vector) r personal-moved (s3 .settings-kept) (done .ended ∙ rounds-are)
               ∙ went-on g (personalTests settings flag vector g) (scored g settings (personalRounds (linksOf (graphIn g)) settings flag vector)) p

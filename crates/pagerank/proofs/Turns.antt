@@ -10,75 +10,110 @@ use lib.Ieee.{Float, nan, binary64, add, sub, mul, div, lt}
 use Rattle.roots.specs.Absolute.{absOf}
 use Rattle.regions.specs.Region.{zeroF, listOf, part, Front, Frame, Filled, Copied}
 use Rattle.regions.proofs.Parts.{part-at, part-is, part-list, list-at}
-use Rattle.regions.proofs.Fronts.{front-none, front-then}
+use Rattle.regions.proofs.Fronts.{list-same, front-none, front-then, front-wide}
 use Rattle.regions.proofs.Frames.{frame-part, front-frame, frame-front, frame-none, frame-set, store-more, filled-part, copied-none, copied-more}
-use Rattle.graph.specs.Layout.{entriesAt, besideAt, outWeightsAt}
-use Rattle.lists.specs.Lists.{Share, sharesAt}
-use Rattle.lists.proofs.Reading.{shareIn, foldTo, walk-none, walk-more, walk-all}
+use Rattle.graph.specs.Layout.{entriesAt, outWeightsAt}
+use Rattle.lists.specs.Lists.{Share, share, longAt}
+use Rattle.lists.proofs.Reading.{fold-none, fold-more}
 use Rattle.rounds.specs.Rounds.{after}
 use Rattle.rounds.specs.Vectors.{entry, currentIn, nextIn, Vectors}
 use Rattle.rounds.proofs.Rounds.{after-none, after-more}
 use Rattle.rounds.proofs.Vectors.{current-at, next-at, next-set, vectors-then, vectors-are}
 use Rattle.pagerank.specs.declared.Turn.{Turn}
-use Rattle.pagerank.specs.Links.{Links, linksIn, outsIn, gives, distributes, withChange, absoluteChange, dividedAt}
+use Rattle.pagerank.specs.Links.{Links, linksIn, shareIn, sharesIn, weightsAt, outsIn, gives, distributes, withChange, absoluteChange, dividedAt}
 use Rattle.pagerank.specs.PageRank.{dangles, withDangling, danglingSum}
-use Rattle.pagerank.specs.Steps.{Advanced, Divided}
+use Rattle.pagerank.specs.Steps.{LinksPre, Advanced, Divided}
 
 -- both vectors as they are
 pub vectors-none : (n : ℕ) (w : List Float) {y : List Float} → nextIn n w ≡ y → Vectors n w (currentIn n w) y w
 vectors-none n w e = record { front = front-none w (n + n); current = refl; next = e }
 
 -- ---- `give`
-module _ (n m : ℕ) (weight : List Float) (w : List ℕ) (v : ℕ) (c : Float) (wf₀ : List Float) where
+-- where a walk over the list of v reads
+pub record Offsets (n : ℕ) (w : List ℕ) (wf : List Float) (v : ℕ) : Type 0 where
+  pub next : v + 1 < length w
+  pub rises : getD w v 0 ≤ getD w (v + 1) 0
+  pub entries : entriesAt n + getD w (v + 1) 0 ≤ length w
+  pub weights : weightsAt n + getD w (v + 1) 0 ≤ length wf
+  pub room : 4 * n ≤ length wf
+
+pub offsets : (n : ℕ) (w : List ℕ) (wf : List Float) → LinksPre n w wf → (v : ℕ) → v < n → Offsets n w wf v
+offsets n w wf pre v l =
+    record { next = omega (arith, pre .entries v l); rises = pre .rises v l; entries = pre .entries v l; weights = pre .weights v l; room = pre .room }
+
+module _ (n : ℕ) (w : List ℕ) (v : ℕ) (c : Float) (wf₀ : List Float) where
+  abbrev held : ℕ → Share
+  held k = shareIn n w wf₀ (getD w v 0 + k)
+
   -- the next vector after the entries before the jth place
   abbrev pub givenTo : ℕ → List Float
-  givenTo j = foldTo n m weight w v (gives c) (nextIn n wf₀) j
+  givenTo j = foldl (gives c) (nextIn n wf₀) (listOf held (j - getD w v 0))
 
   pub give-none : Vectors n wf₀ (currentIn n wf₀) (givenTo (getD w v 0)) wf₀
-  give-none = vectors-none n wf₀ (walk-none n m weight w v (gives c) (nextIn n wf₀))
+  give-none = vectors-none n wf₀ (fold-none (gives c) (nextIn n wf₀) held ∙ ap (λ (i : ℕ). foldl (gives c) (nextIn n wf₀) (listOf held i)) (gone (getD w v 0)))
+    where
+      gone : (a : ℕ) → 0 ≡ a - a
+      gone a = omega arith
 
   pub give-more : (j : ℕ) (wf : List Float) → n + n ≤ length wf₀ → getD w v 0 ≤ j → getD w (entriesAt n + j) 0 < n
       → Vectors n wf₀ (currentIn n wf₀) (givenTo j) wf
       → Vectors n wf₀ (currentIn n wf₀) (givenTo (j + 1))
-      (set wf (n + getD w (entriesAt n + j) 0) (add binary64 (getD wf (n + getD w (entriesAt n + j) 0) nan) (mul binary64 c (getD weight (getD w (besideAt n m + j) 0) nan))))
+      (set wf (n + getD w (entriesAt n + j) 0) (add binary64 (getD wf (n + getD w (entriesAt n + j) 0) nan) (mul binary64 c (getD wf (weightsAt n + j) nan))))
   give-more j wf room l inside s =
       let t = getD w (entriesAt n + j) 0 in
-      let x = mul binary64 c (getD weight (getD w (besideAt n m + j) 0) nan) in
+      let x = mul binary64 c (getD wf (weightsAt n + j) nan) in
       vectors-then s
       (vectors-are (s .current)
       (ap (λ (a : Float). set (nextIn n wf) t (add binary64 a x)) (next-at n wf t inside)
-      ∙ walk-more n m weight w v (gives c) (nextIn n wf₀) j (nextIn n wf) l (s .next))
+      ∙ ap (λ (z : Float). set (nextIn n wf) t (add binary64 (entry (nextIn n wf) t) (mul binary64 c z))) (s .front .rest nan (weightsAt n + j) (omega arith))
+      ∙ fold-more (gives c) (nextIn n wf₀) held (j - getD w v 0) (nextIn n wf) (shareIn n w wf₀ j) (s .next) (ap (shareIn n w wf₀) (there (getD w v 0) l))
+      ∙ ap (λ (i : ℕ). foldl (gives c) (nextIn n wf₀) (listOf held i)) (later (getD w v 0) l))
       (next-set n wf t (add binary64 (getD wf (n + t) nan) x) (omega (arith, s .front .long)) inside))
+    where
+      there : (a : ℕ) → a ≤ j → j ≡ a + (j - a)
+      there a q = omega arith
+
+      later : (a : ℕ) → a ≤ j → j - a + 1 ≡ j + 1 - a
+      later a q = omega arith
 
   pub give-done : (j : ℕ) (wf : List Float) → j ≡ getD w (v + 1) 0 → Vectors n wf₀ (currentIn n wf₀) (givenTo j) wf
-      → Vectors n wf₀ (currentIn n wf₀) (foldl (gives c) (nextIn n wf₀) (sharesAt n m weight w v)) wf
-  give-done j wf e s = vectors-are refl (walk-all n m weight w v (gives c) (nextIn n wf₀) j e) s
+      → Vectors n wf₀ (currentIn n wf₀) (foldl (gives c) (nextIn n wf₀) (sharesIn n w wf₀ v)) wf
+  give-done j wf e s = vectors-are refl (ap givenTo e) s
 
 -- ---- what a round reads is kept while it writes
-module _ (n m : ℕ) (weight : List Float) (w : List ℕ) {wf wf′ : List Float} (room : 4 * n ≤ length wf) (front : Front wf (n + n) wf′) where
+-- the lists, whatever becomes of the four vectors
+pub shares-kept : (n : ℕ) (w : List ℕ) {wf wf′ : List Float} → Front wf (4 * n) wf′ → listOf (sharesIn n w wf′) n ≡ listOf (sharesIn n w wf) n
+shares-kept n w {wf} {wf′} front =
+    list-same (sharesIn n w wf′) (sharesIn n w wf) n
+    (λ v l. list-same (λ k. shareIn n w wf′ (getD w v 0 + k)) (λ k. shareIn n w wf (getD w v 0 + k)) (longAt w v)
+    (λ k h. ap (share (getD w (entriesAt n + (getD w v 0 + k)) 0)) (front .rest nan (weightsAt n + (getD w v 0 + k)) (omega arith))))
+
+module _ (n : ℕ) (w : List ℕ) {wf wf′ : List Float} (room : 4 * n ≤ length wf) (front : Front wf (n + n) wf′) where
   pub region-kept : (b : ℕ) → n + n ≤ b → b + n ≤ 4 * n → part wf′ b n ≡ part wf b n
   region-kept b l h = frame-part nan b n (front-frame front) (omega arith) (λ i k p q. omega arith)
 
   pub outs-kept : outsIn n wf′ ≡ outsIn n wf
   outs-kept = region-kept (2 * n) (omega arith) (omega arith)
 
-  pub links-kept : linksIn n m weight w wf′ ≡ linksIn n m weight w wf
-  links-kept = ap (λ (o : List Float). record { nodes = n; outs = o; shares = listOf (sharesAt n m weight w) n }) outs-kept
+  pub links-kept : linksIn n w wf′ ≡ linksIn n w wf
+  links-kept =
+      ap (λ (o : List Float). record { nodes = n; outs = o; shares = listOf (sharesIn n w wf′) n }) outs-kept
+      ∙ ap (λ (x : List (List Share)). record { nodes = n; outs = outsIn n wf; shares = x }) (shares-kept n w (front-wide (4 * n) (omega arith) front))
 
 pub out-at : (n : ℕ) (wf : List Float) (v : ℕ) → v < n → getD wf (2 * n + v) nan ≡ entry (outsIn n wf) v
 out-at n wf v l = sym (part-at wf (2 * n) n nan v l)
 
 -- what `give` did for a node that distributes
-module _ (n m : ℕ) (weight : List Float) (w : List ℕ) (d : Float) (v : ℕ) (wf : List Float) (l : v < n) where
+module _ (n : ℕ) (w : List ℕ) (d : Float) (v : ℕ) (wf : List Float) (l : v < n) where
   pub distributed : {wf′ : List Float}
-      → Vectors n wf (currentIn n wf) (foldl (gives (div binary64 (mul binary64 d (getD wf v nan)) (getD wf (2 * n + v) nan))) (nextIn n wf) (sharesAt n m weight w v)) wf′
-      → Vectors n wf (currentIn n wf) (distributes (linksIn n m weight w wf) d (currentIn n wf) v (nextIn n wf)) wf′
+      → Vectors n wf (currentIn n wf) (foldl (gives (div binary64 (mul binary64 d (getD wf v nan)) (getD wf (2 * n + v) nan))) (nextIn n wf) (sharesIn n w wf v)) wf′
+      → Vectors n wf (currentIn n wf) (distributes (linksIn n w wf) d (currentIn n wf) v (nextIn n wf)) wf′
   unfolding distributes
   distributed s =
       vectors-are refl
-      (ap (λ (x : Float). foldl (gives (div binary64 (mul binary64 d x) (getD wf (2 * n + v) nan))) (nextIn n wf) (sharesAt n m weight w v)) (current-at n wf v l)
-      ∙ ap (λ (o : Float). foldl (gives (div binary64 (mul binary64 d (entry (currentIn n wf) v)) o)) (nextIn n wf) (sharesAt n m weight w v)) (out-at n wf v l)
-      ∙ ap (λ (shares : List Share). foldl (gives (div binary64 (mul binary64 d (entry (currentIn n wf) v)) (entry (outsIn n wf) v))) (nextIn n wf) shares) (sym (list-at (sharesAt n m weight w) n [] v l)))
+      (ap (λ (x : Float). foldl (gives (div binary64 (mul binary64 d x) (getD wf (2 * n + v) nan))) (nextIn n wf) (sharesIn n w wf v)) (current-at n wf v l)
+      ∙ ap (λ (o : Float). foldl (gives (div binary64 (mul binary64 d (entry (currentIn n wf) v)) o)) (nextIn n wf) (sharesIn n w wf v)) (out-at n wf v l)
+      ∙ ap (λ (shares : List Share). foldl (gives (div binary64 (mul binary64 d (entry (currentIn n wf) v)) (entry (outsIn n wf) v))) (nextIn n wf) shares) (sym (list-at (sharesIn n w wf) n [] v l)))
       s
 
 -- ---- a loop over the nodes that changes the next vector

@@ -2,15 +2,15 @@
 -- divided by its sum (document 01, "PageRank"; graphina's pagerank.rs). Definitions only.
 use mathlib.Core.Bool.{Bool, cond}
 use mathlib.Core.List.{List, [], foldl}
-use Prim.Native.Nat.{ℕ}
+use Prim.Native.Nat.{ℕ, _+_}
 use lib.IntN.{pos}
 use lib.ListN.{length, getD, set}
-use lib.Ieee.{Float, binary64, ofBits, ofInt, add, sub, mul, div, lt}
+use lib.Ieee.{Float, nan, binary64, ofBits, ofInt, add, sub, mul, div, lt}
 use Rattle.roots.specs.Absolute.{absOf}
 use Rattle.regions.specs.Region.{zeroF, listOf, part}
 use Rattle.graph.specs.Edges.{Graph, outWeight}
-use Rattle.graph.specs.Layout.{outWeightsAt}
-use Rattle.lists.specs.Lists.{Share, sharesOf, sharesAt}
+use Rattle.graph.specs.Layout.{entriesAt, outWeightsAt, totalsAt}
+use Rattle.lists.specs.Lists.{Share, share, sharesOf, longAt}
 use Rattle.rounds.specs.Rounds.{after}
 use Rattle.rounds.specs.Vectors.{entry}
 
@@ -24,12 +24,27 @@ abbrev pub linksOf : Graph → Links
 linksOf g =
     record { nodes = g .nodes; outs = listOf (outWeight (g .directed) (g .edges)) (g .nodes); shares = listOf (sharesOf (g .directed) (g .edges)) (g .nodes) }
 
--- the same of n nodes and m edges, read in the workspace
+-- ---- the same of n nodes, read in the workspace
+
 abbrev pub outsIn : ℕ → List Float → List Float
 outsIn n wf = part wf (outWeightsAt n) n
 
-abbrev pub linksIn : ℕ → ℕ → List Float → List ℕ → List Float → Links
-linksIn n m weight w wf = record { nodes = n; outs = outsIn n wf; shares = listOf (sharesAt n m weight w) n }
+-- where the weights of the entries stand, in the order of the entries: the region that edge betweenness has for its totals
+abbrev pub weightsAt : ℕ → ℕ
+weightsAt n = totalsAt n
+
+-- what the jth entry gives: its target, and the weight at its place
+abbrev pub shareIn : ℕ → List ℕ → List Float → ℕ → Share
+shareIn n w wf j = share (getD w (entriesAt n + j) 0) (getD wf (weightsAt n + j) nan)
+
+-- the list of v
+abbrev pub sharesIn : ℕ → List ℕ → List Float → ℕ → List Share
+sharesIn n w wf v = listOf (λ k. shareIn n w wf (getD w v 0 + k)) (longAt w v)
+
+abbrev pub linksIn : ℕ → List ℕ → List Float → Links
+linksIn n w wf = record { nodes = n; outs = outsIn n wf; shares = listOf (sharesIn n w wf) n }
+
+-- ---- what a round does
 
 -- 1.0
 abbrev pub one : Float

@@ -3,40 +3,54 @@ use mathlib.Core.Path.{_≡_}
 use mathlib.Core.Bool.{Bool, true}
 use mathlib.Core.List.{List}
 use Prim.Native.Nat.{ℕ, _+_, _*_, _≤_, _<_}
-use lib.ListN.{length}
-use lib.Ieee.{Float}
+use lib.ListN.{length, getD}
+use lib.Ieee.{Float, nan}
 use Rattle.regions.specs.Region.{Front, Frame, part, over, cleared, zeroF}
 use Rattle.graph.specs.declared.Rounds.{Rounds}
 use Rattle.graph.specs.declared.Fronts.{Fronts}
 use Rattle.graph.specs.Answers.{Said, done}
 use Rattle.graph.specs.Edges.{edgesOf}
+use Rattle.graph.specs.Layout.{entriesAt, besideAt}
 use Rattle.graph.specs.Pres.{Sound}
 use Rattle.graph.specs.Left.{Left, left}
 use Rattle.lists.specs.Lists.{ListsFit, listsFront}
 use Rattle.rounds.specs.Vectors.{currentIn, nextIn}
 use Rattle.pagerank.specs.declared.Turn.{Turn}
-use Rattle.pagerank.specs.Links.{linksOf, linksIn, outsIn, absoluteChange}
+use Rattle.pagerank.specs.Links.{linksOf, linksIn, outsIn, weightsAt, absoluteChange}
 use Rattle.pagerank.specs.PageRank.{danglingSum}
 use Rattle.pagerank.specs.Personalized.{personalIn}
 
--- the weighted lists of n nodes and m edges, their weights, and room for the four vectors of floats
-pub record LinksPre (n m : ℕ) (weight : List Float) (w : List ℕ) (wf : List Float) : Type 0 where
-  pub fit : ListsFit n m w
-  pub weights : length weight ≡ m
+-- w holds n lists whose targets are nodes, and wf has the four vectors and a weight for each entry
+pub record LinksPre (n : ℕ) (w : List ℕ) (wf : List Float) : Type 0 where
+  pub rises : (v : ℕ) → v < n → getD w v 0 ≤ getD w (v + 1) 0
+  pub entries : (v : ℕ) → v < n → entriesAt n + getD w (v + 1) 0 ≤ length w
+  pub nodes : (v j : ℕ) → v < n → getD w v 0 ≤ j → j < getD w (v + 1) 0 → getD w (entriesAt n + j) 0 < n
+  pub weights : (v : ℕ) → v < n → weightsAt n + getD w (v + 1) 0 ≤ length wf
   pub room : 4 * n ≤ length wf
 
--- a sound graph, and room for its lists and for the four vectors
+-- the weighted lists of n nodes and m edges, their weights, and room for a weight at each entry's place
+pub record CopyPre (n m : ℕ) (weight : List Float) (w : List ℕ) (wf : List Float) : Type 0 where
+  pub fit : ListsFit n m w
+  pub weights : length weight ≡ m
+  pub room : weightsAt n + 2 * m ≤ length wf
+
+-- each entry's weight stands at its place, every place of wf outside that region is as it was
+pub record WeightsCopied (n m : ℕ) (weight : List Float) (w : List ℕ) (wf wf′ : List Float) : Type 0 where
+  pub frame : Frame wf (weightsAt n) (2 * m) wf′
+  pub at : (v j : ℕ) → v < n → getD w v 0 ≤ j → j < getD w (v + 1) 0 → getD wf′ (weightsAt n + j) nan ≡ getD weight (getD w (besideAt n m + j) 0) nan
+
+-- a sound graph, and room for its lists, the four vectors and the weights of the entries
 pub record PreparePre (n : ℕ) (from to : List ℕ) (weight : List Float) (w32 : List ℕ) (wf : List Float) : Type 0 where
   pub sound : Sound n from to weight
   pub narrow : listsFront n (length from) ≤ length w32
-  pub floats : 4 * n ≤ length wf
+  pub floats : weightsAt n + 2 * length from ≤ length wf
 
--- what a round reads in the workspace is what it reads of the graph; only the lists and the out-weights were written
+-- what a round reads in the workspace is what it reads of the graph; only the lists, the out-weights and the weights were written
 pub record Prepared (n : ℕ) (directed : Bool) (from to : List ℕ) (weight : List Float) (w32 w32′ : List ℕ) (wf wf′ : List Float) : Type 0 where
   pub narrow : Front w32 (listsFront n (length from)) w32′
-  pub floats : Front wf (4 * n) wf′
-  pub links : linksIn n (length from) weight w32′ wf′ ≡ linksOf (record { nodes = n; directed = directed; edges = edgesOf from to weight })
-  pub pre : LinksPre n (length from) weight w32′ wf′
+  pub floats : Front wf (weightsAt n + 2 * length from) wf′
+  pub links : linksIn n w32′ wf′ ≡ linksOf (record { nodes = n; directed = directed; edges = edgesOf from to weight })
+  pub pre : LinksPre n w32′ wf′
 
 -- DONE with r, the vector x over the scores, and these fronts of the workspace cleared
 abbrev pub writtenBy : Fronts → Rounds → List Float → List Float → List ℕ → List ℕ → List Float → Left (Said Rounds) (List Float)

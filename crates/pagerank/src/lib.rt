@@ -18,13 +18,12 @@ ghost use Rattle.graph.specs.Pres.{Limits};
 ghost use Rattle.graph.specs.Left.{left};
 ghost use Rattle.rounds.specs.Ending.{WritePre};
 ghost use Rattle.rounds.specs.Steps.{RoundsDone};
-ghost use Rattle.lists.specs.Lists.{sharesAt};
 ghost use Rattle.rounds.specs.Rounds.{after, outcome, outcomeFrom};
 ghost use Rattle.rounds.specs.Vectors.{entry, currentIn, nextIn, Vectors};
-ghost use Rattle.pagerank.specs.Links.{linksIn, outsIn, one, double, gives, sumOf, divisorOf, dividedAt};
+ghost use Rattle.pagerank.specs.Links.{linksIn, sharesIn, outsIn, one, double, gives, sumOf, divisorOf, dividedAt};
 ghost use Rattle.pagerank.specs.PageRank.{dangles, danglingSum, pagerankNode, pagerankNext, pagerankStep, startWrong, pagerankOutcome};
 ghost use Rattle.pagerank.specs.Personalized.{personalIn, personalBase, gainsPart, personalNode, personalNext, personalStep, countsOf, personalOf, dampingWrong, personalizedOutcome};
-ghost use Rattle.pagerank.specs.Steps.{LinksPre, PreparePre, Prepared, writtenBy, DividePre, Divided, Advanced, RoundDone, PersonalPre, PersonalBegun};
+ghost use Rattle.pagerank.specs.Steps.{LinksPre, PreparePre, Prepared, CopyPre, WeightsCopied, writtenBy, DividePre, Divided, Advanced, RoundDone, PersonalPre, PersonalBegun};
 
 // The sum below which a start is refused.
 const TINY: f64 = 0.000000001;
@@ -78,11 +77,11 @@ pub fn pagerank(
     }
     prepare(nodes, directed, from, to, weight, w32, wf);
     divide(nodes, given, start, sum, 0, wf);
-    let ended = run(nodes, from.len(), weight, settings, w32, wf);
+    let ended = run(nodes, settings, w32, wf);
     write(nodes, from.len(), ended, scores, w32, w64, wf)
 }
 
-// Builds the weighted lists, and the out-weights from them.
+// Builds the weighted lists, the out-weights from them, and beside them the weights of the entries.
 fn prepare(
     nodes: usize,
     directed: bool,
@@ -97,6 +96,25 @@ fn prepare(
 {
     lists::build_lists(nodes, directed, from, to, weight, w32);
     lists::out_weights(nodes, from.len(), weight, w32, wf);
+    copy_weights(nodes, from.len(), weight, w32, wf);
+}
+
+// The weights of the entries in the entries' order: a round reads them one after the other, not by edge.
+fn copy_weights(nodes: usize, edges: usize, weight: &[f64], w: &[u32], wf: &mut [f64])
+    requires { ⌜ CopyPre nodes edges (now weight) (now w) (now wf) ⌝ }
+    ensures { λ _. ⌜ WeightsCopied nodes edges (now (weight .entry)) (now (w .entry)) (now (wf .entry)) (now (wf .exit)) ⌝ }
+{
+    if nodes == 0 {
+        return;
+    }
+    let beside = nodes + 1 + 2 * edges;
+    let weights = 4 * nodes;
+    let end = w[nodes] as usize;
+    let mut k = w[0] as usize;
+    while k < end {
+        wf[weights + k] = weight[w[beside + k] as usize];
+        k += 1;
+    }
 }
 
 // The current vector as scores; wipes the workspace.
@@ -119,16 +137,9 @@ fn write(
 }
 
 // The rounds; no nodes is a stop rule met before the first of them.
-fn run(
-    nodes: usize,
-    edges: usize,
-    weight: &[f64],
-    settings: Settings,
-    w: &[u32],
-    wf: &mut [f64],
-) -> Rounds
-    requires { ⌜ LinksPre nodes edges (now weight) (now w) (now wf) ⌝ }
-    ensures { λ r. ⌜ RoundsDone nodes settings (outcome (eqb nodes 0) (pagerankStep (linksIn nodes edges (now (weight .entry)) (now (w .entry)) (now (wf .entry))) (settings .damping) (settings .tolerance)) (settings .limit) (currentIn nodes (now (wf .entry)))) (now (wf .entry)) r (now (wf .exit)) ⌝ }
+fn run(nodes: usize, settings: Settings, w: &[u32], wf: &mut [f64]) -> Rounds
+    requires { ⌜ LinksPre nodes (now w) (now wf) ⌝ }
+    ensures { λ r. ⌜ RoundsDone nodes settings (outcome (eqb nodes 0) (pagerankStep (linksIn nodes (now (w .entry)) (now (wf .entry))) (settings .damping) (settings .tolerance)) (settings .limit) (currentIn nodes (now (wf .entry)))) (now (wf .entry)) r (now (wf .exit)) ⌝ }
 {
     if nodes == 0 {
         return Rounds {
@@ -137,20 +148,13 @@ fn run(
             settled: true,
         };
     }
-    run_on(nodes, edges, weight, settings, w, wf)
+    run_on(nodes, settings, w, wf)
 }
 
 // Rounds until one meets the stop rule, or all are used.
-fn run_on(
-    nodes: usize,
-    edges: usize,
-    weight: &[f64],
-    settings: Settings,
-    w: &[u32],
-    wf: &mut [f64],
-) -> Rounds
-    requires { ⌜ LinksPre nodes edges (now weight) (now w) (now wf) ⌝ }
-    ensures { λ r. ⌜ RoundsDone nodes settings (outcomeFrom (pagerankStep (linksIn nodes edges (now (weight .entry)) (now (w .entry)) (now (wf .entry))) (settings .damping) (settings .tolerance)) (settings .limit) 0 (currentIn nodes (now (wf .entry)))) (now (wf .entry)) r (now (wf .exit)) ⌝ }
+fn run_on(nodes: usize, settings: Settings, w: &[u32], wf: &mut [f64]) -> Rounds
+    requires { ⌜ LinksPre nodes (now w) (now wf) ⌝ }
+    ensures { λ r. ⌜ RoundsDone nodes settings (outcomeFrom (pagerankStep (linksIn nodes (now (w .entry)) (now (wf .entry))) (settings .damping) (settings .tolerance)) (settings .limit) 0 (currentIn nodes (now (wf .entry)))) (now (wf .entry)) r (now (wf .exit)) ⌝ }
 {
     let damping = settings.damping;
     let limit = settings.limit;
@@ -158,7 +162,7 @@ fn run_on(
     let mut dangling = dangling_sum(nodes, wf);
     let mut k = 0u64;
     while k < limit {
-        let turn = round(nodes, edges, weight, damping, dangling, w, wf);
+        let turn = round(nodes, damping, dangling, w, wf);
         k += 1;
         if turn.change < bound {
             return Rounds {
@@ -177,77 +181,53 @@ fn run_on(
 }
 
 // One round, from the dangling sum of the current vector.
-fn round(
-    nodes: usize,
-    edges: usize,
-    weight: &[f64],
-    damping: f64,
-    dangling: f64,
-    w: &[u32],
-    wf: &mut [f64],
-) -> Turn
-    requires { ⌜ LinksPre nodes edges (now weight) (now w) (now wf) × (dangling ≡ danglingSum nodes (outsIn nodes (now wf)) (currentIn nodes (now wf))) ⌝ }
-    ensures { λ r. ⌜ RoundDone nodes (outsIn nodes (now (wf .entry))) (pagerankNext (linksIn nodes edges (now (weight .entry)) (now (w .entry)) (now (wf .entry))) damping) (now (wf .entry)) r (now (wf .exit)) ⌝ }
+fn round(nodes: usize, damping: f64, dangling: f64, w: &[u32], wf: &mut [f64]) -> Turn
+    requires { ⌜ LinksPre nodes (now w) (now wf) × (dangling ≡ danglingSum nodes (outsIn nodes (now wf)) (currentIn nodes (now wf))) ⌝ }
+    ensures { λ r. ⌜ RoundDone nodes (outsIn nodes (now (wf .entry))) (pagerankNext (linksIn nodes (now (w .entry)) (now (wf .entry))) damping) (now (wf .entry)) r (now (wf .exit)) ⌝ }
 {
     let n = std::num::nearest_u64_to_f64(nodes as u64);
     let base = (1.0 - damping) / n + dangling * (damping / n);
     regions::fillf(wf, nodes, nodes, base);
-    spread(nodes, edges, weight, damping, w, wf);
+    spread(nodes, damping, w, wf);
     advance(nodes, wf)
 }
 
 // Each node in order gives along its list.
-fn spread(nodes: usize, edges: usize, weight: &[f64], damping: f64, w: &[u32], wf: &mut [f64])
-    requires { ⌜ LinksPre nodes edges (now weight) (now w) (now wf) ⌝ }
-    ensures { λ _. ⌜ Vectors nodes (now (wf .entry)) (currentIn nodes (now (wf .entry))) (after (pagerankNode (linksIn nodes edges (now (weight .entry)) (now (w .entry)) (now (wf .entry))) damping (currentIn nodes (now (wf .entry)))) nodes (nextIn nodes (now (wf .entry)))) (now (wf .exit)) ⌝ }
+fn spread(nodes: usize, damping: f64, w: &[u32], wf: &mut [f64])
+    requires { ⌜ LinksPre nodes (now w) (now wf) ⌝ }
+    ensures { λ _. ⌜ Vectors nodes (now (wf .entry)) (currentIn nodes (now (wf .entry))) (after (pagerankNode (linksIn nodes (now (w .entry)) (now (wf .entry))) damping (currentIn nodes (now (wf .entry)))) nodes (nextIn nodes (now (wf .entry)))) (now (wf .exit)) ⌝ }
 {
     let mut v = 0;
     while v < nodes {
-        spread_node(nodes, edges, weight, damping, w, v, wf);
+        spread_node(nodes, damping, w, v, wf);
         v += 1;
     }
 }
 
 // A node whose out-weight is above zero distributes its damped score by weight.
-fn spread_node(
-    nodes: usize,
-    edges: usize,
-    weight: &[f64],
-    damping: f64,
-    w: &[u32],
-    v: usize,
-    wf: &mut [f64],
-)
-    requires { ⌜ LinksPre nodes edges (now weight) (now w) (now wf) × (v < nodes) ⌝ }
-    ensures { λ _. ⌜ Vectors nodes (now (wf .entry)) (currentIn nodes (now (wf .entry))) (pagerankNode (linksIn nodes edges (now (weight .entry)) (now (w .entry)) (now (wf .entry))) damping (currentIn nodes (now (wf .entry))) v (nextIn nodes (now (wf .entry)))) (now (wf .exit)) ⌝ }
+fn spread_node(nodes: usize, damping: f64, w: &[u32], v: usize, wf: &mut [f64])
+    requires { ⌜ LinksPre nodes (now w) (now wf) × (v < nodes) ⌝ }
+    ensures { λ _. ⌜ Vectors nodes (now (wf .entry)) (currentIn nodes (now (wf .entry))) (pagerankNode (linksIn nodes (now (w .entry)) (now (wf .entry))) damping (currentIn nodes (now (wf .entry))) v (nextIn nodes (now (wf .entry)))) (now (wf .exit)) ⌝ }
 {
     let out = wf[2 * nodes + v];
     if 0.0 < out {
-        give(nodes, edges, weight, damping * wf[v] / out, w, v, wf);
+        give(nodes, damping * wf[v] / out, w, v, wf);
         return;
     }
 }
 
 // The targets of v's list gain contribution*weight, in the list's order.
-fn give(
-    nodes: usize,
-    edges: usize,
-    weight: &[f64],
-    contribution: f64,
-    w: &[u32],
-    v: usize,
-    wf: &mut [f64],
-)
-    requires { ⌜ LinksPre nodes edges (now weight) (now w) (now wf) × (v < nodes) ⌝ }
-    ensures { λ _. ⌜ Vectors nodes (now (wf .entry)) (currentIn nodes (now (wf .entry))) (foldl (gives contribution) (nextIn nodes (now (wf .entry))) (sharesAt nodes edges (now (weight .entry)) (now (w .entry)) v)) (now (wf .exit)) ⌝ }
+fn give(nodes: usize, contribution: f64, w: &[u32], v: usize, wf: &mut [f64])
+    requires { ⌜ LinksPre nodes (now w) (now wf) × (v < nodes) ⌝ }
+    ensures { λ _. ⌜ Vectors nodes (now (wf .entry)) (currentIn nodes (now (wf .entry))) (foldl (gives contribution) (nextIn nodes (now (wf .entry))) (sharesIn nodes (now (w .entry)) (now (wf .entry)) v)) (now (wf .exit)) ⌝ }
 {
     let entries = nodes + 1;
-    let beside = entries + 2 * edges;
+    let weights = 4 * nodes;
     let end = w[v + 1] as usize;
     let mut k = w[v] as usize;
     while k < end {
         let at = nodes + w[entries + k] as usize;
-        wf[at] = wf[at] + contribution * weight[w[beside + k] as usize];
+        wf[at] = wf[at] + contribution * wf[weights + k];
         k += 1;
     }
 }
@@ -399,7 +379,7 @@ pub fn personalized_pagerank(
     }
     prepare(nodes, directed, from, to, weight, w32, wf);
     personal_begin(nodes, given, personalization, wf);
-    let ended = personal_run(nodes, from.len(), weight, settings, w32, wf);
+    let ended = personal_run(nodes, settings, w32, wf);
     write(nodes, from.len(), ended, scores, w32, w64, wf)
 }
 
@@ -446,23 +426,16 @@ fn damping_wrong(damping: f64) -> bool
 }
 
 // Rounds until one meets the stop rule, or all are used.
-fn personal_run(
-    nodes: usize,
-    edges: usize,
-    weight: &[f64],
-    settings: Settings,
-    w: &[u32],
-    wf: &mut [f64],
-) -> Rounds
-    requires { ⌜ LinksPre nodes edges (now weight) (now w) (now wf) ⌝ }
-    ensures { λ r. ⌜ RoundsDone nodes settings (outcomeFrom (personalStep (linksIn nodes edges (now (weight .entry)) (now (w .entry)) (now (wf .entry))) (settings .damping) (settings .tolerance) (personalIn nodes (now (wf .entry)))) (settings .limit) 0 (currentIn nodes (now (wf .entry)))) (now (wf .entry)) r (now (wf .exit)) ⌝ }
+fn personal_run(nodes: usize, settings: Settings, w: &[u32], wf: &mut [f64]) -> Rounds
+    requires { ⌜ LinksPre nodes (now w) (now wf) ⌝ }
+    ensures { λ r. ⌜ RoundsDone nodes settings (outcomeFrom (personalStep (linksIn nodes (now (w .entry)) (now (wf .entry))) (settings .damping) (settings .tolerance) (personalIn nodes (now (wf .entry)))) (settings .limit) 0 (currentIn nodes (now (wf .entry)))) (now (wf .entry)) r (now (wf .exit)) ⌝ }
 {
     let damping = settings.damping;
     let limit = settings.limit;
     let bound = settings.tolerance * std::num::nearest_u64_to_f64(nodes as u64);
     let mut done = 0u64;
     while done < limit {
-        let made = personal_round(nodes, edges, weight, damping, w, wf);
+        let made = personal_round(nodes, damping, w, wf);
         done += 1;
         if made.change < bound {
             return Rounds {
@@ -480,19 +453,12 @@ fn personal_run(
 }
 
 // One round.
-fn personal_round(
-    nodes: usize,
-    edges: usize,
-    weight: &[f64],
-    damping: f64,
-    w: &[u32],
-    wf: &mut [f64],
-) -> Turn
-    requires { ⌜ LinksPre nodes edges (now weight) (now w) (now wf) ⌝ }
-    ensures { λ r. ⌜ RoundDone nodes (outsIn nodes (now (wf .entry))) (personalNext (linksIn nodes edges (now (weight .entry)) (now (w .entry)) (now (wf .entry))) damping (personalIn nodes (now (wf .entry)))) (now (wf .entry)) r (now (wf .exit)) ⌝ }
+fn personal_round(nodes: usize, damping: f64, w: &[u32], wf: &mut [f64]) -> Turn
+    requires { ⌜ LinksPre nodes (now w) (now wf) ⌝ }
+    ensures { λ r. ⌜ RoundDone nodes (outsIn nodes (now (wf .entry))) (personalNext (linksIn nodes (now (w .entry)) (now (wf .entry))) damping (personalIn nodes (now (wf .entry)))) (now (wf .entry)) r (now (wf .exit)) ⌝ }
 {
     personal_bases(nodes, damping, wf);
-    personal_spread(nodes, edges, weight, damping, w, wf);
+    personal_spread(nodes, damping, w, wf);
     advance(nodes, wf)
 }
 
@@ -511,40 +477,25 @@ fn personal_bases(nodes: usize, damping: f64, wf: &mut [f64])
 }
 
 // Each node in order gives: along its list, or into the personalization.
-fn personal_spread(
-    nodes: usize,
-    edges: usize,
-    weight: &[f64],
-    damping: f64,
-    w: &[u32],
-    wf: &mut [f64],
-)
-    requires { ⌜ LinksPre nodes edges (now weight) (now w) (now wf) ⌝ }
-    ensures { λ _. ⌜ Vectors nodes (now (wf .entry)) (currentIn nodes (now (wf .entry))) (after (personalNode (linksIn nodes edges (now (weight .entry)) (now (w .entry)) (now (wf .entry))) damping (personalIn nodes (now (wf .entry))) (currentIn nodes (now (wf .entry)))) nodes (nextIn nodes (now (wf .entry)))) (now (wf .exit)) ⌝ }
+fn personal_spread(nodes: usize, damping: f64, w: &[u32], wf: &mut [f64])
+    requires { ⌜ LinksPre nodes (now w) (now wf) ⌝ }
+    ensures { λ _. ⌜ Vectors nodes (now (wf .entry)) (currentIn nodes (now (wf .entry))) (after (personalNode (linksIn nodes (now (w .entry)) (now (wf .entry))) damping (personalIn nodes (now (wf .entry))) (currentIn nodes (now (wf .entry)))) nodes (nextIn nodes (now (wf .entry)))) (now (wf .exit)) ⌝ }
 {
     let mut v = 0;
     while v < nodes {
-        personal_node(nodes, edges, weight, damping, w, v, wf);
+        personal_node(nodes, damping, w, v, wf);
         v += 1;
     }
 }
 
 // A node whose out-weight is above zero distributes its damped score by weight, every other one dangles.
-fn personal_node(
-    nodes: usize,
-    edges: usize,
-    weight: &[f64],
-    damping: f64,
-    w: &[u32],
-    v: usize,
-    wf: &mut [f64],
-)
-    requires { ⌜ LinksPre nodes edges (now weight) (now w) (now wf) × (v < nodes) ⌝ }
-    ensures { λ _. ⌜ Vectors nodes (now (wf .entry)) (currentIn nodes (now (wf .entry))) (personalNode (linksIn nodes edges (now (weight .entry)) (now (w .entry)) (now (wf .entry))) damping (personalIn nodes (now (wf .entry))) (currentIn nodes (now (wf .entry))) v (nextIn nodes (now (wf .entry)))) (now (wf .exit)) ⌝ }
+fn personal_node(nodes: usize, damping: f64, w: &[u32], v: usize, wf: &mut [f64])
+    requires { ⌜ LinksPre nodes (now w) (now wf) × (v < nodes) ⌝ }
+    ensures { λ _. ⌜ Vectors nodes (now (wf .entry)) (currentIn nodes (now (wf .entry))) (personalNode (linksIn nodes (now (w .entry)) (now (wf .entry))) damping (personalIn nodes (now (wf .entry))) (currentIn nodes (now (wf .entry))) v (nextIn nodes (now (wf .entry)))) (now (wf .exit)) ⌝ }
 {
     let out = wf[2 * nodes + v];
     if 0.0 < out {
-        give(nodes, edges, weight, damping * wf[v] / out, w, v, wf);
+        give(nodes, damping * wf[v] / out, w, v, wf);
         return;
     }
     dangle(nodes, damping * wf[v], wf);

@@ -1,5 +1,5 @@
 -- `pagerank::prepare` meets its contract: what the lists leave is what the definition reads. Assumes nothing.
-use Rattle.pagerank.proofs.Ending.{build-pre, out-pre, prepared}
+use Rattle.pagerank.proofs.Ending.{build-pre, out-pre, copy-pre, prepared}
 use borrow.Author.Needs.{needs}
 use Rattle.pagerank.proofs.prepare.Statement.{statement}
 use Rattle.pagerank.proofs.prepare.Tie as tie
@@ -10,6 +10,9 @@ build-lists-requires c κs = let s = c .before .before .before .before .before .
 out-weights-requires : tie.Need-out-weights-requires
 out-weights-requires c κs = let s = c .before .before .before .before .before .before .before .before .before .before .before in out-pre _ (s .args .directed) _ _ _ _ _ (s .pre) _ (c .before .before .before .before .build-lists .ensures)
 
+copy-weights-requires : tie.Need-copy-weights-requires
+copy-weights-requires c κs = let s = c .before .before .before .before .before .before .before .before .before .before .before .before .before .before .before .before in copy-pre _ (s .args .directed) _ _ _ _ _ (s .pre) _ (c .before .before .before .before .before .before .before .before .before .build-lists .ensures) _ (c .before .before .before .before .out-weights .ensures)
+
 same-length : tie.Need-same-length
 same-length c = search needs
 
@@ -17,9 +20,9 @@ same-length-2 : tie.Need-same-length-2
 same-length-2 c = search needs
 
 returns : tie.Need-returns
-returns c = let s = c .before .before .before .before .before .before .before .before .before .before .before .before .before .before in prepared _ _ _ _ _ _ _ (s .pre) _ (c .before .before .before .before .before .before .before .build-lists .ensures) _ (c .before .before .out-weights .ensures)
+returns c = let s = c .before .before .before .before .before .before .before .before .before .before .before .before .before .before .before .before .before .before .before in prepared _ _ _ _ _ _ _ (s .pre) _ (c .before .before .before .before .before .before .before .before .before .before .before .before .build-lists .ensures) _ (c .before .before .before .before .before .before .before .out-weights .ensures) _ (c .before .before .copy-weights .ensures)
 
 pub prepare-spec : {M : Type 1} → statement M
 prepare-spec =
     tie.close
-    (tie.spec build-lists-requires out-weights-requires same-length same-length-2 returns)
+    (tie.spec build-lists-requires out-weights-requires copy-weights-requires same-length same-length-2 returns)

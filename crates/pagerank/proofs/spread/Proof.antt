@@ -15,17 +15,17 @@ use Rattle.pagerank.proofs.spread.Statement.{statement}
 use Rattle.pagerank.proofs.spread.Tie as tie
 
 abbrev Inv-loop : tie.InvT-loop
-Inv-loop nodes edges weight damping w wf₀ v₀ wf v =
-    (v ≤ nodes) × Vectors nodes wf₀ (currentIn nodes wf₀) (after (pagerankNode (linksIn nodes edges weight w wf₀) damping (currentIn nodes wf₀)) v (nextIn nodes wf₀)) wf
+Inv-loop nodes damping w wf₀ v₀ wf v =
+    (v ≤ nodes) × Vectors nodes wf₀ (currentIn nodes wf₀) (after (pagerankNode (linksIn nodes w wf₀) damping (currentIn nodes wf₀)) v (nextIn nodes wf₀)) wf
 
 abbrev μ-loop : tie.MeasureT-loop
-μ-loop nodes edges weight damping w wf₀ v₀ wf v = nodes - v
+μ-loop nodes damping w wf₀ v₀ wf v = nodes - v
 
 loop-holds : tie.Need-loop-holds Inv-loop μ-loop
-loop-holds c = let s = c .before .before .before in (omega arith, nodes-none (s .args .nodes) (pagerankNode (linksIn (s .args .nodes) (s .args .edges) (s .args .weight .now) (s .args .w .now) (s .args .wf .now)) (s .args .damping) (currentIn (s .args .nodes) (s .args .wf .now))) (s .args .wf .now))
+loop-holds c = let s = c .before .before in (omega arith, nodes-none (s .args .nodes) (pagerankNode (linksIn (s .args .nodes) (s .args .w .now) (s .args .wf .now)) (s .args .damping) (currentIn (s .args .nodes) (s .args .wf .now))) (s .args .wf .now))
 
 spread-node-requires : tie.Need-spread-node-requires Inv-loop μ-loop
-spread-node-requires c κs = (pre-kept _ _ _ _ (c .before .before .before .before .before .before .args .damping) _ (c .before .before .before .before .before .before .pre) (c .before .before .loop .inv .1 .front), c .before .loop-test .taken)
+spread-node-requires c κs = (pre-kept _ _ (c .before .before .before .before .before .args .damping) _ (c .before .before .before .before .before .pre) (c .before .before .loop .inv .1 .front), c .before .loop-test .taken)
 
 add-v : tie.Need-add-v Inv-loop μ-loop
 add-v c = search needs
@@ -34,23 +34,23 @@ loop-less : tie.Need-loop-less Inv-loop μ-loop
 loop-less c = search needs
 
 loop-again : tie.Need-loop-again Inv-loop μ-loop
-loop-again c = let s = c .before .before .before .before .before .before .before .before .before in
+loop-again c = let s = c .before .before .before .before .before .before .before .before in
     let at = c .before .before .before .before .before in
     let n = s .args .nodes in
     let d = s .args .damping in
     let wf = at .loop .wf in
     let k = at .loop .inv .1 in (
       omega (arith, c .before .before .before .before .loop-test .taken),
-      nodes-more (s .args .nodes) (pagerankNode (linksIn (s .args .nodes) (s .args .edges) (s .args .weight .now) (s .args .w .now) (s .args .wf .now)) (s .args .damping) (currentIn (s .args .nodes) (s .args .wf .now))) (s .args .wf .now) k (c .before .before .spread-node .ensures) refl
-          (ap (λ (l : Links). pagerankNode l d (currentIn n wf) (at .loop .v) (nextIn n wf)) (links-kept n (s .args .edges) (s .args .weight .now) (s .args .w .now) (s .pre .room) (k .front))
-          ∙ ap (λ (x : List Float). pagerankNode (linksIn n (s .args .edges) (s .args .weight .now) (s .args .w .now) (s .args .wf .now)) d x (at .loop .v) (nextIn n wf)) (k .current)),
+      nodes-more (s .args .nodes) (pagerankNode (linksIn (s .args .nodes) (s .args .w .now) (s .args .wf .now)) (s .args .damping) (currentIn (s .args .nodes) (s .args .wf .now))) (s .args .wf .now) k (c .before .before .spread-node .ensures) refl
+          (ap (λ (l : Links). pagerankNode l d (currentIn n wf) (at .loop .v) (nextIn n wf)) (links-kept n (s .args .w .now) (s .pre .room) (k .front))
+          ∙ ap (λ (x : List Float). pagerankNode (linksIn n (s .args .w .now) (s .args .wf .now)) d x (at .loop .v) (nextIn n wf)) (k .current)),
     )
 
 same-length : tie.Need-same-length Inv-loop μ-loop
 same-length c = c .before .loop .inv .1 .front .long
 
 returns : tie.Need-returns Inv-loop μ-loop
-returns c = let s = c .before .before .before .before .before in nodes-done (s .args .nodes) (pagerankNode (linksIn (s .args .nodes) (s .args .edges) (s .args .weight .now) (s .args .w .now) (s .args .wf .now)) (s .args .damping) (currentIn (s .args .nodes) (s .args .wf .now))) (s .args .wf .now) (omega (arith, c .before .loop .inv .0, c .loop-test .left)) (c .before .loop .inv .1)
+returns c = let s = c .before .before .before .before in nodes-done (s .args .nodes) (pagerankNode (linksIn (s .args .nodes) (s .args .w .now) (s .args .wf .now)) (s .args .damping) (currentIn (s .args .nodes) (s .args .wf .now))) (s .args .wf .now) (omega (arith, c .before .loop .inv .0, c .loop-test .left)) (c .before .loop .inv .1)
 
 pub spread-spec : {M : Type 1} → statement M
 spread-spec =
