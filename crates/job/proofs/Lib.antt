@@ -1,5 +1,4 @@
 pub mod Fronts
 pub mod Texts
-pub mod Seats
 pub mod Suffices
 pub mod Unique

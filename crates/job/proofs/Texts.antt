@@ -1,15 +1,14 @@
 -- Which text answers a job, by its limits and its faulty line.
 -- Assumes nothing.
-use mathlib.Core.Path.{_≡_, refl, sym, ap, _∙_}
+use mathlib.Core.Path.{_≡_, refl, sym, _∙_}
 use mathlib.Core.Bool.{Bool, true, false, cond}
 use mathlib.Core.List.{List, map}
 use Prim.Native.Nat.{ℕ, _≤_, _<_}
 use native.Mathlib.Omega.{arith}
-use lib.ListN.{length, replicate}
+use lib.ListN.{length}
 use lib.Ieee.{Float}
 use lib.Dec.{ltb}
 use borrow.Author.Tests.{lt-ltb, le-ltb, ltb-false}
-use Rattle.regions.specs.Region.{zeroF}
 use Rattle.text.specs.Written.{Written}
 use Rattle.graph.specs.declared.Answer.the-variants.{Size, Room, Text}
 use Rattle.graph.specs.Answers.{done, refusedWith, numberOf}
@@ -20,8 +19,8 @@ use Rattle.reader.specs.declared.Job.the-variants.{Asked, Fault}
 use Rattle.reader.specs.Edges.{fromOf, toOf, bitsOf}
 use Rattle.reader.specs.Job.{jobOf, edgesOf}
 use Rattle.reply.specs.Reply.{refusalText}
-use Rattle.job.specs.Scored.{lent, scoredText}
-use Rattle.job.specs.Run.{inputLimit, outputRoom, runLeft, runOutcome, narrowRoom, wideRoom, floatRoom, onZeros, doubles, headAnswer, jobAnswer, answerOf}
+use Rattle.measures.specs.Scored.{scoredText, outputRoom}
+use Rattle.job.specs.Run.{inputLimit, runLeft, runOutcome, onZeros, doubles, headAnswer, answerOf}
 
 -- the same text, written
 pub as-written : {text text′ before after : List ℕ} {r : ℕ} → text ≡ text′ → Written text′ before 0 after r → Written text before 0 after r

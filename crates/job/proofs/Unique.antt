@@ -1,9 +1,9 @@
 -- No second outcome meets the contract of `run`. Assumes nothing.
-use mathlib.Core.Path.{_≡_, refl, sym, ap, _∙_}
+use mathlib.Core.Path.{_≡_, sym, ap, _∙_}
 use mathlib.Core.List.{List}
 use Prim.Native.Nat.{ℕ}
 use Rattle.graph.specs.declared.Answer.{Answer}
-use Rattle.graph.specs.Answers.{numberOf, Said, done, refusal}
+use Rattle.graph.specs.Answers.{Said, refusal}
 use Rattle.graph.proofs.Said.{number-names}
 use Rattle.job.specs.declared.Ran.{Ran}
 use Rattle.job.specs.declared.Ran.the-variants.{Written, Refused}

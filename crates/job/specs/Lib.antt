@@ -1,3 +1,2 @@
-pub mod Scored
 pub mod Run
 pub mod Pres

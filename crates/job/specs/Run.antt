@@ -1,7 +1,7 @@
 -- The program's whole work: the answer's text of any bytes, and what a call of `run` leaves.
 -- Definitions only. Document 01, "The command program".
-use mathlib.Core.Bool.{Bool, true, false, cond, _||_}
-use mathlib.Core.List.{List, [], map}
+use mathlib.Core.Bool.{cond}
+use mathlib.Core.List.{List, map}
 use Prim.Native.Nat.{ℕ}
 use lib.Dec.{ltb}
 use lib.ListN.{length, replicate}
@@ -19,15 +19,11 @@ use Rattle.reader.specs.Job.{jobOf, edgesOf}
 use Rattle.reply.specs.Reply.{refusalText}
 use Rattle.job.specs.declared.Ran.{Ran}
 use Rattle.job.specs.declared.Ran.the-variants.{Written, Refused}
-use Rattle.job.specs.Scored.{Lent, lent, scoredText}
+use Rattle.measures.specs.Scored.{Lent, lent, scoredText, outputRoom}
 
 -- the most bytes of a job text
 abbrev pub inputLimit : ℕ
 inputLimit = 49152
-
--- the bytes that every answer has room in
-abbrev pub outputRoom : ℕ
-outputRoom = 32768
 
 -- the numbers of a workspace for the most nodes and edges: 8n+8m+8, 2n and 6n+4m
 abbrev pub narrowRoom : ℕ

@@ -1,11 +1,5 @@
 -- `job::answer` meets its contract. Assumes nothing.
-use mathlib.Core.Path.{_≡_, refl, sym, ap, _∙_}
-use mathlib.Core.List.{List, map}
-use Prim.Native.Nat.{ℕ, _≤_}
-use native.Mathlib.Omega.{arith}
-use lib.ListN.{length, take, replicate, length-replicate}
-use lib.Seq.{length-take-le}
-use lib.Ieee.{Float}
+use mathlib.Core.Path.{sym, _∙_}
 use Rattle.job.proofs.Fronts.{stored-ends}
 use Rattle.reader.specs.Edges.{fromOf, toOf, bitsOf}
 use Rattle.reader.specs.Job.{edgesOf}

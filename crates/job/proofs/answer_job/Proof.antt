@@ -1,11 +1,9 @@
 -- `job::answer_job` meets its contract. Assumes nothing.
-use mathlib.Core.Path.{_≡_, refl, sym, ap, _∙_}
-use mathlib.Core.List.{List, map}
-use Prim.Native.Nat.{ℕ, _≤_}
+use mathlib.Core.Path.{sym}
+use Prim.Native.Nat.{_≤_}
 use native.Mathlib.Omega.{arith}
-use lib.ListN.{length, take, replicate, length-replicate}
 use lib.Seq.{length-take-le}
-use lib.Ieee.{Float, ofBits}
+use lib.Ieee.{ofBits}
 use Rattle.job.proofs.Fronts.{doubled}
 use Rattle.job.specs.Run.{onZeros}
 use Rattle.job.proofs.Texts.{as-written, too-many-nodes, too-many-edges, of-measure}

@@ -1,12 +1,4 @@
 -- `job::run` meets its contract. Assumes nothing.
-use mathlib.Core.Path.{_≡_, refl, sym, ap, _∙_}
-use mathlib.Core.List.{List, map}
-use Prim.Native.Nat.{ℕ, _≤_}
-use native.Mathlib.Omega.{arith}
-use lib.ListN.{length, take}
-use lib.Seq.{length-take-le}
-use lib.Ieee.{Float}
-use borrow.Author.Tests.{lt-ltb, le-ltb}
 use Rattle.job.proofs.Texts.{no-room, all-written}
 use borrow.Author.Needs.{needs}
 use Rattle.job.proofs.run.Statement.{statement}

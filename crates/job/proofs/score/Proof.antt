@@ -1,5 +1,5 @@
 -- `job::score` meets its contract. Assumes nothing.
-use Rattle.job.specs.Scored.{scoredText}
+use Rattle.measures.specs.Scored.{scoredText}
 use borrow.Author.Needs.{needs}
 use Rattle.job.proofs.score.Statement.{statement}
 use Rattle.job.proofs.score.Tie as tie
