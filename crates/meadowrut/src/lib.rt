@@ -13,9 +13,9 @@ ghost use Rattle.graph.specs.Left.{left, inNumbers};
 ghost use Rattle.degree.specs.Degree.{degreeOutcome, inDegreeOutcome, outDegreeOutcome};
 ghost use Rattle.survey.specs.Survey.{results, surveyOutcome};
 ghost use Rattle.betweenness.specs.Betweenness.{betweennessOutcome};
-ghost use Rattle.other.specs.Reaching.{reachingOutcome, globalOutcome};
-ghost use Rattle.other.specs.Laplacian.{laplacianOutcome};
-ghost use Rattle.other.specs.VoteRank.{voterankOutcome};
+ghost use Rattle.reaching.specs.Reaching.{reachingOutcome, globalOutcome};
+ghost use Rattle.laplacian.specs.Laplacian.{laplacianOutcome};
+ghost use Rattle.voterank.specs.VoteRank.{voterankOutcome};
 ghost use Rattle.pagerank.specs.PageRank.{pagerankOutcome};
 ghost use Rattle.pagerank.specs.Personalized.{personalizedOutcome};
 ghost use Rattle.eigenvector.specs.Eigenvector.{eigenOutcome};
@@ -209,7 +209,7 @@ pub extern "C" fn meadowrut_local_reaching(
 ) -> u32
     ensures { λ r. ⌜ left r (now (scores .exit)) (now (w32 .exit)) (now (w64 .exit)) (now (wf .exit)) ≡ inNumbers (reachingOutcome hops (given nodes (raised directed) (now (from .entry)) (now (to .entry)) (now (weight .entry)) (now (scores .entry)) (now (w32 .entry)) (now (w64 .entry)) (now (wf .entry)))) ⌝ }
 {
-    graph::plain_number(other::local_reaching(
+    graph::plain_number(reaching::local_reaching(
         nodes,
         directed != 0,
         from,
@@ -237,7 +237,7 @@ pub extern "C" fn meadowrut_global_reaching(
 ) -> u32
     ensures { λ r. ⌜ left r (now (scores .exit)) (now (w32 .exit)) (now (w64 .exit)) (now (wf .exit)) ≡ inNumbers (globalOutcome (given nodes (raised directed) (now (from .entry)) (now (to .entry)) (now (weight .entry)) (now (scores .entry)) (now (w32 .entry)) (now (w64 .entry)) (now (wf .entry)))) ⌝ }
 {
-    graph::plain_number(other::global_reaching(
+    graph::plain_number(reaching::global_reaching(
         nodes,
         directed != 0,
         from,
@@ -264,7 +264,7 @@ pub extern "C" fn meadowrut_laplacian(
 ) -> u32
     ensures { λ r. ⌜ left r (now (scores .exit)) (now (w32 .exit)) (now (w64 .exit)) (now (wf .exit)) ≡ inNumbers (laplacianOutcome (given nodes (raised directed) (now (from .entry)) (now (to .entry)) (now (weight .entry)) (now (scores .entry)) (now (w32 .entry)) (now (w64 .entry)) (now (wf .entry)))) ⌝ }
 {
-    graph::plain_number(other::laplacian(
+    graph::plain_number(laplacian::laplacian(
         nodes,
         directed != 0,
         from,
@@ -292,7 +292,7 @@ pub extern "C" fn meadowrut_voterank(
 ) -> Election
     ensures { λ r. ⌜ left r (now (elected .exit)) (now (w32 .exit)) (now (w64 .exit)) (now (wf .exit)) ≡ voiced counted (voterankOutcome seeds (given nodes (raised directed) (now (from .entry)) (now (to .entry)) (now (weight .entry)) (now (elected .entry)) (now (w32 .entry)) (now (w64 .entry)) (now (wf .entry)))) ⌝ }
 {
-    let said = other::voterank(
+    let said = voterank::voterank(
         nodes,
         directed != 0,
         from,

@@ -13,7 +13,7 @@ use Rattle.graph.specs.Edges.{Graph}
 use Rattle.graph.specs.Given.{Given, graphIn}
 use Rattle.graph.specs.Left.{untouched, wiped}
 use Rattle.graph.specs.Refusals.{plainly}
-use Rattle.other.specs.VoteRank.{Poll, electing, winner, pollScore, elections, opening, decayOf, seatsOf, closing, voterankOutcome}
+use Rattle.voterank.specs.VoteRank.{Poll, electing, winner, pollScore, elections, opening, decayOf, seatsOf, closing, voterankOutcome}
 
 -- each election adds one
 elected-few : (g : Graph) (decay : Float) (k : ℕ) (p : Poll) → length (elections g decay k p .elected) ≤ length (p .elected) + k

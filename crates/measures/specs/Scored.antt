@@ -18,13 +18,13 @@ use Rattle.reply.specs.declared.Settled.{Settled}
 use Rattle.reply.specs.declared.Settled.the-variants.{Yes, No, Neither}
 use Rattle.reply.specs.Reply.{answerText, electionText, refusalText}
 use Rattle.eigenvector.specs.Eigenvector.{eigenOutcome}
-use Rattle.other.specs.Reaching.{reachingOutcome}
+use Rattle.reaching.specs.Reaching.{reachingOutcome}
 use Rattle.pagerank.specs.PageRank.{pagerankOutcome}
 use Rattle.betweenness.specs.Betweenness.{betweennessOutcome}
 use Rattle.pagerank.specs.Personalized.{personalizedOutcome}
 use Rattle.degree.specs.Degree.{degreeOutcome}
-use Rattle.other.specs.Laplacian.{laplacianOutcome}
-use Rattle.other.specs.VoteRank.{voterankOutcome}
+use Rattle.laplacian.specs.Laplacian.{laplacianOutcome}
+use Rattle.voterank.specs.VoteRank.{voterankOutcome}
 use Rattle.katz.specs.Katz.{katzOutcome}
 
 -- a refusal prints its number and no line; else the values make the text

@@ -63,7 +63,7 @@ pub fn score_reaching(
     ensures { λ r. ⌜ Written (reachingText top (lent (now (from .entry)) (now (to .entry)) (now (weight .entry)) (now (scores .entry)) [] (now (w32 .entry)) (now (w64 .entry)) (now (wf .entry)))) (now (output .entry)) 0 (now (output .exit)) r ⌝ }
 {
     let nodes = top.nodes as usize;
-    let said = other::local_reaching(
+    let said = reaching::local_reaching(
         nodes,
         top.directed,
         from,
@@ -206,7 +206,7 @@ pub fn score_laplacian(
     ensures { λ r. ⌜ Written (laplacianText top (lent (now (from .entry)) (now (to .entry)) (now (weight .entry)) (now (scores .entry)) [] (now (w32 .entry)) (now (w64 .entry)) (now (wf .entry)))) (now (output .entry)) 0 (now (output .exit)) r ⌝ }
 {
     let nodes = top.nodes as usize;
-    let said = other::laplacian(nodes, top.directed, from, to, weight, scores, w32, w64, wf);
+    let said = laplacian::laplacian(nodes, top.directed, from, to, weight, scores, w32, w64, wf);
     put_plain(output, Measure::Laplacian, nodes, said, scores)
 }
 
@@ -259,7 +259,7 @@ pub fn score_voterank(
 {
     let nodes = top.nodes as usize;
     let seeds = top.option as usize;
-    let said = other::voterank(
+    let said = voterank::voterank(
         nodes,
         top.directed,
         from,

@@ -108,7 +108,7 @@ fn voterank(
     let n = nodes(words);
     let directed = is_directed(words);
     let seeds = record::size(words, own, 0);
-    elected(other::voterank(n, directed, from, to, weight, seeds, seats, w32, w64, wf))
+    elected(voterank::voterank(n, directed, from, to, weight, seeds, seats, w32, w64, wf))
 }
 
 // The calls that read ends alone and leave a score for each node.
@@ -139,7 +139,7 @@ fn scored(
             w64,
             wf,
         )),
-        6 => plain(other::local_reaching(
+        6 => plain(reaching::local_reaching(
             n,
             directed,
             from,
@@ -151,8 +151,8 @@ fn scored(
             w64,
             wf,
         )),
-        7 => plain(other::global_reaching(n, directed, from, to, weight, scores, w32, w64, wf)),
-        _ => plain(other::laplacian(n, directed, from, to, weight, scores, w32, w64, wf)),
+        7 => plain(reaching::global_reaching(n, directed, from, to, weight, scores, w32, w64, wf)),
+        _ => plain(laplacian::laplacian(n, directed, from, to, weight, scores, w32, w64, wf)),
     }
 }
 

@@ -15,11 +15,11 @@ use Rattle.graph.specs.Checks.{sizeWrong, firstFault, nodeWrong, workWrong}
 use Rattle.graph.specs.Refusals.{firstOf, firstRefusal}
 use Rattle.graph.specs.Left.{left}
 use Rattle.degree.specs.Degree.{endCount, endScores, endsOutcome, degreeOutcome}
-use Rattle.other.specs.Laplacian.{laplacianScore, laplacianScores, laplacianOutcome}
+use Rattle.laplacian.specs.Laplacian.{laplacianScore, laplacianScores, laplacianOutcome}
 use Rattle.hops.specs.Sum.{sumOver, below, same}
 use Rattle.hops.specs.Hops.{walks, seek, dist}
-use Rattle.other.specs.Reaching.{othersIn, reachScore, reachingOutcome}
-use Rattle.other.specs.VoteRank.{decayOf, votes, listed, pollScore, firstHighest, winner, electing, elections, closing, voterankOutcome}
+use Rattle.reaching.specs.Reaching.{othersIn, reachScore, reachingOutcome}
+use Rattle.voterank.specs.VoteRank.{decayOf, votes, listed, pollScore, firstHighest, winner, electing, elections, closing, voterankOutcome}
 
 abbrev float : ℕ → Float
 float bits = ofBits binary64 bits

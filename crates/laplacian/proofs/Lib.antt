@@ -1,0 +1,4 @@
+pub mod Sums
+pub mod Steps
+pub mod Ending
+pub mod Unique

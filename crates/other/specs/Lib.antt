@@ -1,5 +1,0 @@
-pub mod Laplacian
-pub mod VoteRank
-pub mod Elections
-pub mod Reaching
-pub mod Reach

@@ -1,0 +1,6 @@
+pub mod Walks
+pub mod Within
+pub mod Undoing
+pub mod Starting
+pub mod Reached
+pub mod Unique

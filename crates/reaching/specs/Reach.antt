@@ -1,0 +1,125 @@
+-- What the steps of a search within a hop limit ask and leave: hop distances from D of the workspace, its queue from Q. Definitions only.
+use mathlib.Core.Path.{_≡_}
+use mathlib.Core.Logic.{_≢_, _⊎_}
+use mathlib.Core.Bool.{Bool, true, false, cond}
+use mathlib.Core.List.{List}
+use Prim.Native.Nat.{ℕ, _+_, _≤_, _<_}
+use lib.Dec.{eqb}
+use lib.ListN.{length, getD, set}
+use lib.Ieee.{Float}
+use Rattle.regions.specs.Region.{over, listOf, Frame2}
+use Rattle.graph.specs.Edges.{Edge, Graph, entries}
+use Rattle.hops.specs.Sum.{sumOver, below, onlyIf}
+use Rattle.hops.specs.Hops.{unreached, Valid}
+use Rattle.hops.specs.Search.{graphOf, RowsOf, Search}
+use Rattle.reaching.specs.Reaching.{inReach, reachScore}
+
+-- ---- one entry
+pub record MeetPre (x D place : ℕ) (w : List ℕ) : Type 0 where
+  pub distance : D + x < length w
+  pub slot : getD w (D + x) 0 ≡ unreached → place < length w
+
+-- x has no distance yet
+abbrev pub unmet : ℕ → ℕ → List ℕ → Bool
+unmet x D w = eqb (getD w (D + x) 0) unreached
+
+-- then it is given one, and a place in the queue
+abbrev pub met : ℕ → ℕ → ℕ → ℕ → List ℕ → List ℕ
+met x further D place w = cond (unmet x D w) (set (set w (D + x) further) place x) w
+
+pub record Met (x further D place : ℕ) (w w′ : List ℕ) (r : ℕ) : Type 0 where
+  pub stored : w′ ≡ met x further D place w
+  pub more : r ≡ onlyIf (unmet x D w) 1
+
+-- ---- the entries of one node
+
+-- the search from s stands at place `head` of its queue, whose node is u: with some counts it is a search that counts ways
+pub record Walk (g : Graph) (s : ℕ) (w : List ℕ) (D Q head tail u j : ℕ) : Type 0 where
+  pub counts : List ℕ
+  pub most : ℕ
+  pub search : Search g most s w counts D Q head tail u j
+
+-- every distance is within the limit
+abbrev pub Near : ℕ → ℕ → ℕ → List ℕ → Type 0
+Near n limit D w = (v : ℕ) → v < n → getD w (D + v) 0 ≢ unreached → getD w (D + v) 0 ≤ limit
+
+-- there is a graph whose search stands at u, and `further` is one hop on
+pub record SpreadPre (n u further D Q tail : ℕ) (w : List ℕ) : Type 0 where
+  pub directed : Bool
+  pub edges : List Edge
+  pub start : ℕ
+  pub head : ℕ
+  pub walk : Walk (graphOf n directed edges) start w D Q head tail u 0
+  pub far : further ≡ getD w (D + u) 0 + 1
+
+-- of every graph and start whose search it goes on with: all entries of u have been looked at
+pub record SpreadPost (n u further D Q tail : ℕ) (w w′ : List ℕ) (r : ℕ) : Type 0 where
+  pub kept : Frame2 w D n Q n w′
+  pub near : (limit : ℕ) → further ≤ limit → Near n limit D w → Near n limit D w′
+  pub walked : (directed : Bool) (es : List Edge) (s head : ℕ) → Walk (graphOf n directed es) s w D Q head tail u 0
+      → Walk (graphOf n directed es) s w′ D Q head r u (length (entries (graphOf n directed es) u))
+
+-- ---- one start
+
+-- the queue holds, in its first `tail` places, the nodes within the limit of s, and only they have a distance
+pub record Within (g : Graph) (limit s : ℕ) (w : List ℕ) (D Q tail : ℕ) : Type 0 where
+  pub taken : tail ≤ g .nodes
+  pub queued : (i : ℕ) → i < tail → getD w (Q + i) 0 < g .nodes
+  pub labelled : (v : ℕ) → v < g .nodes → getD w (D + v) 0 ≢ unreached → (i : ℕ) × (i < tail) × (getD w (Q + i) 0 ≡ v)
+  pub many : tail ≡ sumOver (below (g .nodes)) (λ v. onlyIf (inReach g limit s v) 1)
+
+pub record WithinPre (n limit D Q : ℕ) (w : List ℕ) : Type 0 where
+  pub directed : Bool
+  pub edges : List Edge
+  pub start : ℕ
+  pub walk : Walk (graphOf n directed edges) start w D Q 0 1 (getD w (Q + 0) 0) 0
+  pub near : Near n limit D w
+
+pub record WithinPost (n limit D Q : ℕ) (w w′ : List ℕ) (r : ℕ) : Type 0 where
+  pub kept : Frame2 w D n Q n w′
+  pub reached : (directed : Bool) (es : List Edge) (s : ℕ) → Walk (graphOf n directed es) s w D Q 0 1 (getD w (Q + 0) 0) 0 → Near n limit D w
+      → Within (graphOf n directed es) limit s w′ D Q r
+
+-- the rows of g stand in w, then n distances, then n places of a queue; no node has a distance
+pub record Ground (g : Graph) (w : List ℕ) (D Q : ℕ) : Type 0 where
+  pub valid : Valid g
+  pub rows : RowsOf g w D
+  pub front : g .nodes + 1 ≤ D
+  pub apart : D + g .nodes ≤ Q
+  pub room : Q + g .nodes ≤ length w
+  pub far : (v : ℕ) → v < g .nodes → getD w (D + v) 0 ≡ unreached
+
+pub record FromPre (n s D Q : ℕ) (w : List ℕ) : Type 0 where
+  pub directed : Bool
+  pub edges : List Edge
+  pub ground : Ground (graphOf n directed edges) w D Q
+  pub start : s < n
+
+pub record FromPost (n limit s D Q : ℕ) (w w′ : List ℕ) (r : ℕ) : Type 0 where
+  pub kept : Frame2 w D n Q n w′
+  pub reached : (directed : Bool) (es : List Edge) → Ground (graphOf n directed es) w D Q → Within (graphOf n directed es) limit s w′ D Q r
+
+-- ---- back to the beginning
+pub record UndoPre (tail D Q : ℕ) (w : List ℕ) : Type 0 where
+  pub room : Q + tail ≤ length w
+  pub before : (i : ℕ) → i < tail → D + getD w (Q + i) 0 < Q
+
+-- the nodes at the first `tail` places of the queue have no distance, and all else is as it was
+pub record Undone (tail D Q : ℕ) (w w′ : List ℕ) : Type 0 where
+  pub long : length w′ ≡ length w
+  pub far : (i : ℕ) → i < tail → getD w′ (D + getD w (Q + i) 0) 0 ≡ unreached
+  pub either : (k : ℕ) → (getD w′ k 0 ≡ getD w k 0) ⊎ (getD w′ k 0 ≡ unreached)
+  pub kept : (k : ℕ) → ((i : ℕ) → i < tail → k ≢ D + getD w (Q + i) 0) → getD w′ k 0 ≡ getD w k 0
+
+-- ---- all starts
+pub record AllPre (n D Q : ℕ) (w : List ℕ) (scores : List Float) : Type 0 where
+  pub directed : Bool
+  pub edges : List Edge
+  pub ground : Ground (graphOf n directed edges) w D Q
+  pub small : n ≤ 4096
+  pub room : n ≤ length scores
+
+pub record AllPost (n limit D Q : ℕ) (w : List ℕ) (scores : List Float) (w′ : List ℕ) (scores′ : List Float) : Type 0 where
+  pub kept : Frame2 w D n Q n w′
+  pub long : length scores′ ≡ length scores
+  pub scored : (directed : Bool) (es : List Edge) → Ground (graphOf n directed es) w D Q → scores′ ≡ over (listOf (reachScore (graphOf n directed es) limit) n) scores

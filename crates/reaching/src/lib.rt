@@ -1,0 +1,198 @@
+// Reaching centralities, local and global, of the Rust's other.rs. Each call reads the ends of the edges alone.
+use graph::Plain;
+use graph::Refusal;
+ghost use mathlib.Core.Path.{_≡_};
+ghost use Rattle.graph.specs.Answers.{saidPlain};
+ghost use Rattle.graph.specs.Given.{given};
+ghost use Rattle.graph.specs.Left.{left};
+ghost use Rattle.reaching.specs.Reaching.{shareOf, reachingOutcome, globalOutcome};
+ghost use Rattle.reaching.specs.Reach.{MeetPre, Met, SpreadPre, SpreadPost, WithinPre, WithinPost, FromPre, FromPost, UndoPre, Undone, AllPre, AllPost};
+
+// The other nodes within `limit` hops, divided by n - 1; 0 for a single node.
+// Refuses SIZE, NODE, ROOM, in this order.
+pub fn local_reaching(
+    nodes: usize,
+    directed: bool,
+    from: &[u32],
+    to: &[u32],
+    weight: &[f64],
+    limit: u64,
+    scores: &mut [f64],
+    w32: &mut [u32],
+    w64: &mut [u64],
+    wf: &mut [f64],
+) -> Plain
+    ensures { λ r. ⌜ left (saidPlain r) (now (scores .exit)) (now (w32 .exit)) (now (w64 .exit)) (now (wf .exit)) ≡ reachingOutcome limit (given nodes directed (now (from .entry)) (now (to .entry)) (now (weight .entry)) (now (scores .entry)) (now (w32 .entry)) (now (w64 .entry)) (now (wf .entry))) ⌝ }
+{
+    let answer = graph::plain_refusal(
+        nodes,
+        from,
+        to,
+        weight,
+        false,
+        false,
+        scores.len() < nodes,
+        w32.len(),
+        w64.len(),
+        wf.len(),
+    );
+    if graph::refuses(answer) {
+        return Plain::Refused(Refusal { answer });
+    }
+    let edges = from.len();
+    rows::build_rows(nodes, directed, from, to, weight, w32);
+    let distances = nodes + 1 + 4 * edges;
+    let queue = 2 * nodes + 1 + 4 * edges;
+    regions::fill32(w32, distances, nodes, hops::UNREACHED);
+    reach_all(nodes, limit, distances, queue, w32, scores);
+    graph::wipe(graph::usual_fronts(nodes, edges), w32, w64, wf);
+    Plain::Done
+}
+
+// The same with the limit n, within which every node is that can be reached.
+pub fn global_reaching(
+    nodes: usize,
+    directed: bool,
+    from: &[u32],
+    to: &[u32],
+    weight: &[f64],
+    scores: &mut [f64],
+    w32: &mut [u32],
+    w64: &mut [u64],
+    wf: &mut [f64],
+) -> Plain
+    ensures { λ r. ⌜ left (saidPlain r) (now (scores .exit)) (now (w32 .exit)) (now (w64 .exit)) (now (wf .exit)) ≡ globalOutcome (given nodes directed (now (from .entry)) (now (to .entry)) (now (weight .entry)) (now (scores .entry)) (now (w32 .entry)) (now (w64 .entry)) (now (wf .entry))) ⌝ }
+{
+    local_reaching(
+        nodes,
+        directed,
+        from,
+        to,
+        weight,
+        nodes as u64,
+        scores,
+        w32,
+        w64,
+        wf,
+    )
+}
+
+// A search from every node, each of which takes back what it wrote.
+fn reach_all(
+    nodes: usize,
+    limit: u64,
+    distances: usize,
+    queue: usize,
+    w: &mut [u32],
+    scores: &mut [f64],
+)
+    requires { ⌜ AllPre nodes distances queue (now w) (now scores) ⌝ }
+    ensures { λ _. ⌜ AllPost nodes limit distances queue (now (w .entry)) (now (scores .entry)) (now (w .exit)) (now (scores .exit)) ⌝ }
+{
+    let mut s = 0;
+    while s < nodes {
+        let reached = reach_from(nodes, limit, s, distances, queue, w);
+        undo(reached, distances, queue, w);
+        scores[s] = share(nodes, reached - 1);
+        s += 1;
+    }
+}
+
+// k of the other nodes.
+fn share(nodes: usize, k: usize) -> f64
+    ensures { λ r. ⌜ r ≡ shareOf nodes k ⌝ }
+{
+    if 1 < nodes {
+        return std::num::nearest_u64_to_f64(k as u64)
+            / std::num::nearest_u64_to_f64((nodes - 1) as u64);
+    }
+    0.0
+}
+
+// How many nodes are within the limit of `start`, itself counted: they stand in the queue.
+fn reach_from(
+    nodes: usize,
+    limit: u64,
+    start: usize,
+    distances: usize,
+    queue: usize,
+    w: &mut [u32],
+) -> usize
+    requires { ⌜ FromPre nodes start distances queue (now w) ⌝ }
+    ensures { λ r. ⌜ FromPost nodes limit start distances queue (now (w .entry)) (now (w .exit)) r ⌝ }
+{
+    w[distances + start] = 0;
+    w[queue] = start as u32;
+    reach_within(nodes, limit, distances, queue, w)
+}
+
+// Node by node of the queue, until one is as far as the limit or nothing new is reached.
+fn reach_within(nodes: usize, limit: u64, distances: usize, queue: usize, w: &mut [u32]) -> usize
+    requires { ⌜ WithinPre nodes limit distances queue (now w) ⌝ }
+    ensures { λ r. ⌜ WithinPost nodes limit distances queue (now (w .entry)) (now (w .exit)) r ⌝ }
+{
+    let mut head = 0;
+    let mut tail = 1;
+    while head < tail {
+        let u = w[queue + head] as usize;
+        let far = w[distances + u];
+        if limit <= far as u64 {
+            return tail;
+        }
+        tail = spread(nodes, u, far + 1, distances, queue, tail, w);
+        head += 1;
+    }
+    tail
+}
+
+// The entries of u: those without a distance are `further` hops away, and join the queue.
+fn spread(
+    nodes: usize,
+    u: usize,
+    further: u32,
+    distances: usize,
+    queue: usize,
+    tail: usize,
+    w: &mut [u32],
+) -> usize
+    requires { ⌜ SpreadPre nodes u further distances queue tail (now w) ⌝ }
+    ensures { λ r. ⌜ SpreadPost nodes u further distances queue tail (now (w .entry)) (now (w .exit)) r ⌝ }
+{
+    let rows = nodes + 1;
+    let end = rows + w[u + 1] as usize;
+    let mut p = rows + w[u] as usize;
+    let mut place = queue + tail;
+    while p < end {
+        let more = meet(w[p], further, distances, place, w);
+        place = place + more;
+        p += 1;
+    }
+    place - queue
+}
+
+// One entry: by how many the queue grows.
+fn meet(x: u32, further: u32, distances: usize, place: usize, w: &mut [u32]) -> usize
+    requires { ⌜ MeetPre x distances place (now w) ⌝ }
+    ensures { λ r. ⌜ Met x further distances place (now (w .entry)) (now (w .exit)) r ⌝ }
+{
+    let v = x as usize;
+    if w[distances + v] == hops::UNREACHED {
+        w[distances + v] = further;
+        w[place] = x;
+        return 1;
+    }
+    0
+}
+
+// Takes back the distances of the nodes in the queue.
+fn undo(tail: usize, distances: usize, queue: usize, w: &mut [u32])
+    requires { ⌜ UndoPre tail distances queue (now w) ⌝ }
+    ensures { λ _. ⌜ Undone tail distances queue (now (w .entry)) (now (w .exit)) ⌝ }
+{
+    let mut i = 0;
+    while i < tail {
+        let v = w[queue + i] as usize;
+        w[distances + v] = hops::UNREACHED;
+        i += 1;
+    }
+}

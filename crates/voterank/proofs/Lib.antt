@@ -1,0 +1,6 @@
+pub mod Voting
+pub mod Polling
+pub mod Closing
+pub mod Order
+pub mod Rule
+pub mod Unique

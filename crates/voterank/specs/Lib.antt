@@ -1,0 +1,2 @@
+pub mod VoteRank
+pub mod Elections
