@@ -19,11 +19,10 @@ use Rattle.rounds.specs.Vectors.{entry, currentIn, nextIn, Vectors}
 use Rattle.rounds.proofs.Rounds.{rest, rounds-more, rounds-met, rounds-over, rounds-before}
 use Rattle.rounds.proofs.Vectors.{vectors-then, vectors-are}
 use Rattle.rounds.specs.Steps.{RoundsDone}
-use Rattle.pagerank.specs.declared.Turn.{Turn}
 use Rattle.pagerank.specs.Links.{Links, linksIn, sharesIn, outsIn, one, double, gives, distributes, absoluteChange, settles}
 use Rattle.pagerank.specs.PageRank.{danglingSum, pagerankBase, pagerankNode, pagerankNext, pagerankStep}
 use Rattle.pagerank.specs.Steps.{LinksPre, Advanced, RoundDone}
-use Rattle.pagerank.proofs.Turns.{vectors-none, outs-kept, links-kept, out-at, distributed}
+use Rattle.pagerank.proofs.Turns.{vectors-none, links-kept, out-at, distributed}
 
 -- ---- one node
 module _ (n : ℕ) (w : List ℕ) (d : Float) (v : ℕ) (wf : List Float) (l : v < n) where
@@ -57,14 +56,13 @@ filled-vectors n room f =
     }
 
 -- the next vector became the current one after a round made it
-pub advanced-round : (n : ℕ) (next : List Float → List Float) {wf wf2 wf3 : List Float} {t : Turn} → 4 * n ≤ length wf
-    → Vectors n wf (currentIn n wf) (next (currentIn n wf)) wf2 → Advanced n (outsIn n wf2) wf2 t wf3 → RoundDone n (outsIn n wf) next wf t wf3
-advanced-round n next {wf} {wf2} {wf3} {t} room s a =
+pub advanced-round : (n : ℕ) (next : List Float → List Float) {wf wf2 wf3 : List Float} {change : Float}
+    → Vectors n wf (currentIn n wf) (next (currentIn n wf)) wf2 → Advanced n wf2 change wf3 → RoundDone n next wf change wf3
+advanced-round n next {wf} {wf2} s a =
     record {
       front = front-then (s .front) (a .front);
       current = a .current ∙ s .next;
-      change = a .change ∙ ap (λ (x : List Float). absoluteChange n x (nextIn n wf2)) (s .current) ∙ ap (absoluteChange n (currentIn n wf)) (sym (a .current));
-      dangling = a .dangling ∙ ap (λ (o : List Float). danglingSum n o (nextIn n wf2)) (outs-kept n [] room (s .front)) ∙ ap (danglingSum n (outsIn n wf)) (sym (a .current));
+      changed = a .changed ∙ ap (λ (x : List Float). absoluteChange n x (nextIn n wf2)) (s .current) ∙ ap (absoluteChange n (currentIn n wf)) (sym (a .current));
     }
 
 module _ (n : ℕ) (w : List ℕ) (d : Float) (wf : List Float) (pre : LinksPre n w wf) where
@@ -78,11 +76,11 @@ module _ (n : ℕ) (w : List ℕ) (d : Float) (wf : List Float) (pre : LinksPre 
     pub spread-pre : LinksPre n w wf1
     spread-pre = pre-kept (begun .front)
 
-    pub round-done : {wf2 wf3 : List Float} {t : Turn} → Vectors n wf1 (currentIn n wf1) (after (pagerankNode (linksIn n w wf1) d (currentIn n wf1)) n (nextIn n wf1)) wf2 → Advanced n (outsIn n wf2) wf2 t wf3
-        → RoundDone n (outsIn n wf) (pagerankNext (linksIn n w wf) d) wf t wf3
+    pub round-done : {wf2 wf3 : List Float} {change : Float} → Vectors n wf1 (currentIn n wf1) (after (pagerankNode (linksIn n w wf1) d (currentIn n wf1)) n (nextIn n wf1)) wf2 → Advanced n wf2 change wf3
+        → RoundDone n (pagerankNext (linksIn n w wf) d) wf change wf3
     unfolding pagerankNext
     round-done s a =
-        advanced-round n (pagerankNext (linksIn n w wf) d) (pre .room)
+        advanced-round n (pagerankNext (linksIn n w wf) d)
         (vectors-then begun
         (vectors-are (begun .current)
         (ap (λ (l : Links). after (pagerankNode l d (currentIn n wf1)) n (nextIn n wf1)) (links-kept n w (pre .room) (begun .front))
@@ -99,48 +97,43 @@ base-is n d dangling e = rw e
 
 -- a round reads the same links as the first
 module _ (n : ℕ) (w : List ℕ) (d : Float) {wf₀ wf : List Float} (pre : LinksPre n w wf₀) (front : Front wf₀ (n + n) wf) where
-  pub round-pre : {dangling : Float} → dangling ≡ danglingSum n (outsIn n wf₀) (currentIn n wf) → LinksPre n w wf × (dangling ≡ danglingSum n (outsIn n wf) (currentIn n wf))
-  round-pre e = (pre-kept n w d wf₀ pre front, e ∙ ap (λ (o : List Float). danglingSum n o (currentIn n wf)) (sym (outs-kept n w (pre .room) front)))
-
-  pub round-kept : {t : Turn} {wf′ : List Float} → RoundDone n (outsIn n wf) (pagerankNext (linksIn n w wf) d) wf t wf′ → RoundDone n (outsIn n wf₀) (pagerankNext (linksIn n w wf₀) d) wf t wf′
-  round-kept {t} {wf′} r =
+  pub round-kept : {change : Float} {wf′ : List Float} → RoundDone n (pagerankNext (linksIn n w wf) d) wf change wf′ → RoundDone n (pagerankNext (linksIn n w wf₀) d) wf change wf′
+  round-kept r =
       record {
         front = r .front;
         current = r .current ∙ ap (λ (l : Links). pagerankNext l d (currentIn n wf)) (links-kept n w (pre .room) front);
-        change = r .change;
-        dangling = r .dangling ∙ ap (λ (o : List Float). danglingSum n o (currentIn n wf′)) (outs-kept n w (pre .room) front);
+        changed = r .changed;
       }
 
 -- ---- rounds, of which k are done
-module _ (n : ℕ) (outs : List Float) (next : List Float → List Float) (step : List Float → Round (List Float)) (tolerance : Float)
+module _ (n : ℕ) (next : List Float → List Float) (step : List Float → Round (List Float)) (tolerance : Float)
     (is : (x : List Float) → step x ≡ round (next x) (settles tolerance n x (next x))) (limit : ℕ) (wf₀ : List Float) where
   abbrev end : Out (List Float)
   end = outcomeFrom step limit 0 (currentIn n wf₀)
 
-  pub record Running (k : ℕ) (dangling : Float) (wf : List Float) : Type 0 where
+  pub record Running (k : ℕ) (wf : List Float) : Type 0 where
     pub front : Front wf₀ (n + n) wf
-    pub dangling-is : dangling ≡ danglingSum n outs (currentIn n wf)
     pub rounds-left : rest step end limit k (currentIn n wf) ≡ end
 
-  pub running-none : {dangling : Float} → dangling ≡ danglingSum n outs (currentIn n wf₀) → Running 0 dangling wf₀
-  running-none e = record { front = front-none wf₀ (n + n); dangling-is = e; rounds-left = ap (λ (j : ℕ). outcomeFrom step j 0 (currentIn n wf₀)) (sub-zero limit) }
+  pub running-none : Running 0 wf₀
+  running-none = record { front = front-none wf₀ (n + n); rounds-left = ap (λ (j : ℕ). outcomeFrom step j 0 (currentIn n wf₀)) (sub-zero limit) }
 
-  module _ {k : ℕ} {dangling bound : Float} {wf wf′ : List Float} {t : Turn} (s : Running k dangling wf) (l : k < limit) (r : RoundDone n outs next wf t wf′) (eb : bound ≡ mul binary64 tolerance (double n)) where
-    stepped : step (currentIn n wf) ≡ round (currentIn n wf′) (lt (t .change) bound)
+  module _ {k : ℕ} {change bound : Float} {wf wf′ : List Float} (s : Running k wf) (l : k < limit) (r : RoundDone n next wf change wf′) (eb : bound ≡ mul binary64 tolerance (double n)) where
+    stepped : step (currentIn n wf) ≡ round (currentIn n wf′) (lt change bound)
     unfolding settles
     stepped =
         is (currentIn n wf)
         ∙ ap (λ (y : List Float). round y (settles tolerance n (currentIn n wf) y)) (sym (r .current))
-        ∙ ap (λ (c : Float). round (currentIn n wf′) (lt c (mul binary64 tolerance (double n)))) (sym (r .change))
-        ∙ ap (λ (b : Float). round (currentIn n wf′) (lt (t .change) b)) (sym eb)
+        ∙ ap (λ (c : Float). round (currentIn n wf′) (lt c (mul binary64 tolerance (double n)))) (sym (r .changed))
+        ∙ ap (λ (b : Float). round (currentIn n wf′) (lt change b)) (sym eb)
 
-    pub running-more : lt (t .change) bound ≡ false → Running (k + 1) (t .dangling) wf′
-    running-more f = record { front = front-then (s .front) (r .front); dangling-is = r .dangling; rounds-left = rounds-more step end limit l stepped f (s .rounds-left) }
+    pub running-more : lt change bound ≡ false → Running (k + 1) wf′
+    running-more f = record { front = front-then (s .front) (r .front); rounds-left = rounds-more step end limit l stepped f (s .rounds-left) }
 
-    pub running-met : (settings : Settings) → lt (t .change) bound ≡ true → RoundsDone n settings end wf₀ (record { settings = settings; rounds = k + 1; settled = true }) wf′
+    pub running-met : (settings : Settings) → lt change bound ≡ true → RoundsDone n settings end wf₀ (record { settings = settings; rounds = k + 1; settled = true }) wf′
     running-met settings f = record { front = front-then (s .front) (r .front); settings-kept = refl; ended = rounds-met step end limit l stepped f (s .rounds-left) }
 
-  pub running-over : (settings : Settings) {k : ℕ} {dangling : Float} {wf : List Float} → limit ≤ k → Running k dangling wf → RoundsDone n settings end wf₀ (record { settings = settings; rounds = k; settled = false }) wf
+  pub running-over : (settings : Settings) {k : ℕ} {wf : List Float} → limit ≤ k → Running k wf → RoundsDone n settings end wf₀ (record { settings = settings; rounds = k; settled = false }) wf
   running-over settings l s = record { front = s .front; settings-kept = refl; ended = rounds-over step end limit l (s .rounds-left) }
 
 pub pagerank-is : (l : Links) (d tolerance : Float) (x : List Float) → pagerankStep l d tolerance x ≡ round (pagerankNext l d x) (settles tolerance (l .nodes) x (pagerankNext l d x))

@@ -30,12 +30,10 @@ use Rattle.rounds.specs.Ending.{scored}
 use Rattle.rounds.specs.Vectors.{entry, currentIn, nextIn, Vectors}
 use Rattle.rounds.proofs.Vectors.{current-at, next-at, next-set, vectors-then, vectors-are}
 use Rattle.rounds.proofs.Tests.{iterative-ready, iterative-fits, length-right}
-use Rattle.pagerank.specs.declared.Turn.{Turn}
 use Rattle.pagerank.specs.Links.{Links, linksOf, linksIn, sharesIn, outsIn, double, gives, distributes, sumOf, divisorOf, dividedAt, divided, settles}
-use Rattle.pagerank.specs.PageRank.{danglingSum}
 use Rattle.pagerank.specs.Personalized.{personalIn, personalBase, gainsPart, spreadsPersonal, personalNode, personalNext, personalStep, countsOf, personalOf, personalRounds, dampingWrong, personalOwn, personalTests, personalizedOutcome}
 use Rattle.pagerank.specs.Steps.{LinksPre, Prepared, writtenBy, DividePre, Divided, Advanced, RoundDone, PersonalPre, PersonalBegun}
-use Rattle.pagerank.proofs.Turns.{region-kept, shares-kept, outs-kept, links-kept, out-at, distributed, nodes-more}
+use Rattle.pagerank.proofs.Turns.{region-kept, shares-kept, links-kept, out-at, distributed, nodes-more}
 use Rattle.pagerank.proofs.Nodes.{advanced-round, links-pre-long, pre-kept, Running, run-some}
 use Rattle.pagerank.proofs.Ending.{written}
 
@@ -90,12 +88,12 @@ module _ (n : ℕ) (w : List ℕ) (d : Float) (wf : List Float) (pre : LinksPre 
     pub personal-spread-pre : LinksPre n w wf1
     personal-spread-pre = pre-kept n w d wf pre (begun .front)
 
-    pub personal-round-done : {wf2 wf3 : List Float} {t : Turn}
-        → Vectors n wf1 (currentIn n wf1) (after (personalNode (linksIn n w wf1) d (personalIn n wf1) (currentIn n wf1)) n (nextIn n wf1)) wf2 → Advanced n (outsIn n wf2) wf2 t wf3
-        → RoundDone n (outsIn n wf) (personalNext (linksIn n w wf) d (personalIn n wf)) wf t wf3
+    pub personal-round-done : {wf2 wf3 : List Float} {change : Float}
+        → Vectors n wf1 (currentIn n wf1) (after (personalNode (linksIn n w wf1) d (personalIn n wf1) (currentIn n wf1)) n (nextIn n wf1)) wf2 → Advanced n wf2 change wf3
+        → RoundDone n (personalNext (linksIn n w wf) d (personalIn n wf)) wf change wf3
     unfolding personalNext
     personal-round-done s a =
-        advanced-round n (personalNext (linksIn n w wf) d (personalIn n wf)) (pre .room)
+        advanced-round n (personalNext (linksIn n w wf) d (personalIn n wf))
         (vectors-then begun
         (vectors-are (begun .current)
         (ap (λ (l : Links). after (personalNode l d (personalIn n wf1) (currentIn n wf1)) n (nextIn n wf1)) (links-kept n w (pre .room) (begun .front))
@@ -106,16 +104,15 @@ module _ (n : ℕ) (w : List ℕ) (d : Float) (wf : List Float) (pre : LinksPre 
         a
 
 -- a round reads the same links and personalization as the first
-pub personal-round-kept : (n : ℕ) (w : List ℕ) (d : Float) {wf₀ wf : List Float} → LinksPre n w wf₀ → Front wf₀ (n + n) wf → {t : Turn} {wf′ : List Float}
-    → RoundDone n (outsIn n wf) (personalNext (linksIn n w wf) d (personalIn n wf)) wf t wf′ → RoundDone n (outsIn n wf₀) (personalNext (linksIn n w wf₀) d (personalIn n wf₀)) wf t wf′
-personal-round-kept n w d {wf₀} {wf} pre front {t} {wf′} r =
+pub personal-round-kept : (n : ℕ) (w : List ℕ) (d : Float) {wf₀ wf : List Float} → LinksPre n w wf₀ → Front wf₀ (n + n) wf → {change : Float} {wf′ : List Float}
+    → RoundDone n (personalNext (linksIn n w wf) d (personalIn n wf)) wf change wf′ → RoundDone n (personalNext (linksIn n w wf₀) d (personalIn n wf₀)) wf change wf′
+personal-round-kept n w d {wf₀} {wf} pre front r =
     record {
       front = r .front;
       current = r .current
           ∙ ap (λ (l : Links). personalNext l d (personalIn n wf) (currentIn n wf)) (links-kept n w (pre .room) front)
           ∙ ap (λ (p : List Float). personalNext (linksIn n w wf₀) d p (currentIn n wf)) (personal-kept n (pre .room) front);
-      change = r .change;
-      dangling = r .dangling ∙ ap (λ (o : List Float). danglingSum n o (currentIn n wf′)) (outs-kept n w (pre .room) front);
+      changed = r .changed;
     }
 
 pub personal-is : (l : Links) (d tolerance : Float) (p x : List Float) → personalStep l d tolerance p x ≡ round (personalNext l d p x) (settles tolerance (l .nodes) x (personalNext l d p x))

@@ -6,7 +6,7 @@ use Prim.Native.Nat.{ℕ, _+_, _*_, _-_, _≤_, _<_}
 use native.Mathlib.Nat.{zero-add}
 use native.Mathlib.Omega.{arith}
 use lib.ListN.{length, getD, set}
-use lib.Ieee.{Float, nan, binary64, add, sub, mul, div, lt}
+use lib.Ieee.{Float, nan, binary64, add, sub, mul, div, lt, eq}
 use Rattle.roots.specs.Absolute.{absOf}
 use Rattle.regions.specs.Region.{zeroF, listOf, part, Front, Frame, Filled, Copied}
 use Rattle.regions.proofs.Parts.{part-at, part-is, part-list, list-at}
@@ -19,9 +19,8 @@ use Rattle.rounds.specs.Rounds.{after}
 use Rattle.rounds.specs.Vectors.{entry, currentIn, nextIn, Vectors}
 use Rattle.rounds.proofs.Rounds.{after-none, after-more}
 use Rattle.rounds.proofs.Vectors.{current-at, next-at, next-set, vectors-then, vectors-are}
-use Rattle.pagerank.specs.declared.Turn.{Turn}
 use Rattle.pagerank.specs.Links.{Links, linksIn, shareIn, sharesIn, weightsAt, outsIn, gives, distributes, withChange, absoluteChange, dividedAt}
-use Rattle.pagerank.specs.PageRank.{dangles, withDangling, danglingSum}
+use Rattle.pagerank.specs.PageRank.{dangles, withDangling}
 use Rattle.pagerank.specs.Steps.{LinksPre, Advanced, Divided}
 
 -- both vectors as they are
@@ -103,6 +102,18 @@ module _ (n : ℕ) (w : List ℕ) {wf wf′ : List Float} (room : 4 * n ≤ leng
 pub out-at : (n : ℕ) (wf : List Float) (v : ℕ) → v < n → getD wf (2 * n + v) nan ≡ entry (outsIn n wf) v
 out-at n wf v l = sym (part-at wf (2 * n) n nan v l)
 
+-- what a node adds to the dangling sum
+pub dangling-at : (n : ℕ) (wf : List Float) (i : ℕ) (sum : Float) → i < n → dangles (getD wf (2 * n + i) nan) (getD wf i nan) sum ≡ withDangling (outsIn n wf) (currentIn n wf) i sum
+dangling-at n wf i sum l =
+    ap (λ (z : Float). dangles z (getD wf i nan) sum) (out-at n wf i l)
+    ∙ ap (λ (z : Float). dangles (entry (outsIn n wf) i) z sum) (current-at n wf i l)
+
+pub dangling-yes : (out x sum : Float) → eq out zeroF ≡ true → add binary64 sum x ≡ dangles out x sum
+dangling-yes out x sum e = rw e
+
+pub dangling-no : (out x sum : Float) → eq out zeroF ≡ false → sum ≡ dangles out x sum
+dangling-no out x sum e = rw e
+
 -- what `give` did for a node that distributes
 module _ (n : ℕ) (w : List ℕ) (d : Float) (v : ℕ) (wf : List Float) (l : v < n) where
   pub distributed : {wf′ : List Float}
@@ -132,21 +143,19 @@ module _ (n : ℕ) (turn : ℕ → List Float → List Float) (wf₀ : List Floa
 
 -- ---- `advance`
 -- after i nodes
-pub record Advancing (n : ℕ) (wf₀ : List Float) (i : ℕ) (change dangling : Float) (wf : List Float) : Type 0 where
+pub record Advancing (n : ℕ) (wf₀ : List Float) (i : ℕ) (change : Float) (wf : List Float) : Type 0 where
   pub copied : Copied wf₀ n wf₀ 0 i wf
   pub change-is : change ≡ after (withChange (currentIn n wf₀) (nextIn n wf₀)) i zeroF
-  pub dangling-is : dangling ≡ after (withDangling (outsIn n wf₀) (nextIn n wf₀)) i zeroF
 
 module _ (n : ℕ) (wf₀ : List Float) (room : 4 * n ≤ length wf₀) where
-  pub advancing-none : Advancing n wf₀ 0 zeroF zeroF wf₀
+  pub advancing-none : Advancing n wf₀ 0 zeroF wf₀
   advancing-none =
       record {
         copied = copied-none wf₀ n wf₀ 0;
         change-is = after-none (withChange (currentIn n wf₀) (nextIn n wf₀)) zeroF;
-        dangling-is = after-none (withDangling (outsIn n wf₀) (nextIn n wf₀)) zeroF;
       }
 
-  module _ (i : ℕ) (change dangling : Float) (wf : List Float) (l : i < n) (s : Advancing n wf₀ i change dangling wf) where
+  module _ (i : ℕ) (change : Float) (wf : List Float) (l : i < n) (s : Advancing n wf₀ i change wf) where
     left : (j : ℕ) → i ≤ j → getD wf j nan ≡ getD wf₀ j nan
     left j h = s .copied .frame .rest nan j (λ p q. omega arith)
 
@@ -156,32 +165,23 @@ module _ (n : ℕ) (wf₀ : List Float) (room : 4 * n ≤ length wf₀) where
     y-is : getD wf (n + i) nan ≡ entry (nextIn n wf₀) i
     y-is = left (n + i) (omega arith) ∙ next-at n wf₀ i l
 
-    out-is : getD wf (2 * n + i) nan ≡ entry (outsIn n wf₀) i
-    out-is = left (2 * n + i) (omega arith) ∙ out-at n wf₀ i l
-
-    pub advancing-more : {a b : Float} → a ≡ absOf (sub binary64 (getD wf i nan) (getD wf (n + i) nan)) → b ≡ dangles (getD wf (2 * n + i) nan) (getD wf (n + i) nan) dangling
-        → Advancing n wf₀ (i + 1) (add binary64 change a) b (set wf i (getD wf (n + i) nan))
-    advancing-more {a} {b} ea eb =
+    pub advancing-more : {a : Float} → a ≡ absOf (sub binary64 (getD wf i nan) (getD wf (n + i) nan))
+        → Advancing n wf₀ (i + 1) (add binary64 change a) (set wf i (getD wf (n + i) nan))
+    advancing-more {a} ea =
         record {
           copied = rw (zero-add i) at (copied-more nan (getD wf (n + i) nan) (s .copied) (omega arith) (omega arith) (left (n + i) (omega arith)));
           change-is =
               ap (λ (z : Float). add binary64 change z) (ea ∙ ap (λ (z : Float). absOf (sub binary64 z (getD wf (n + i) nan))) x-is ∙ ap (λ (z : Float). absOf (sub binary64 (entry (currentIn n wf₀) i) z)) y-is)
               ∙ after-more (withChange (currentIn n wf₀) (nextIn n wf₀)) i zeroF change (s .change-is);
-          dangling-is =
-              eb
-              ∙ ap (λ (z : Float). dangles z (getD wf (n + i) nan) dangling) out-is
-              ∙ ap (λ (z : Float). dangles (entry (outsIn n wf₀) i) z dangling) y-is
-              ∙ after-more (withDangling (outsIn n wf₀) (nextIn n wf₀)) i zeroF dangling (s .dangling-is);
         }
 
-  pub advancing-done : (i : ℕ) (change dangling : Float) (wf : List Float) → i ≡ n → Advancing n wf₀ i change dangling wf → Advanced n (outsIn n wf₀) wf₀ (record { change = change; dangling = dangling }) wf
-  unfolding absoluteChange danglingSum
-  advancing-done i change dangling wf e s =
+  pub advancing-done : (i : ℕ) (change : Float) (wf : List Float) → i ≡ n → Advancing n wf₀ i change wf → Advanced n wf₀ change wf
+  unfolding absoluteChange
+  advancing-done i change wf e s =
       record {
         front = frame-front (n + n) (omega arith) (s .copied .frame);
         current = part-is nan wf 0 n (λ k. getD wf₀ (n + k) nan) (omega (arith, s .copied .frame .long)) (λ k h. s .copied .at nan k (omega arith)) ∙ part-list nan wf₀ n n (omega arith);
-        change = s .change-is ∙ ap (λ (k : ℕ). after (withChange (currentIn n wf₀) (nextIn n wf₀)) k zeroF) e;
-        dangling = s .dangling-is ∙ ap (λ (k : ℕ). after (withDangling (outsIn n wf₀) (nextIn n wf₀)) k zeroF) e;
+        changed = s .change-is ∙ ap (λ (k : ℕ). after (withChange (currentIn n wf₀) (nextIn n wf₀)) k zeroF) e;
       }
 
 -- ---- `divide`

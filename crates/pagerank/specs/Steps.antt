@@ -15,9 +15,7 @@ use Rattle.graph.specs.Pres.{Sound}
 use Rattle.graph.specs.Left.{Left, left}
 use Rattle.lists.specs.Lists.{ListsFit, listsFront}
 use Rattle.rounds.specs.Vectors.{currentIn, nextIn}
-use Rattle.pagerank.specs.declared.Turn.{Turn}
 use Rattle.pagerank.specs.Links.{linksOf, linksIn, outsIn, weightsAt, absoluteChange}
-use Rattle.pagerank.specs.PageRank.{danglingSum}
 use Rattle.pagerank.specs.Personalized.{personalIn}
 
 -- w holds n lists whose targets are nodes, and wf has the four vectors and a weight for each entry
@@ -66,19 +64,17 @@ pub record Divided (n : ℕ) (values : List Float) (base : ℕ) (wf wf′ : List
   pub frame : Frame wf base n wf′
   pub there : part wf′ base n ≡ values
 
--- the next vector became the current one, beside it still the next; t has the change, and the dangling sum of that vector
-pub record Advanced (n : ℕ) (outs : List Float) (wf : List Float) (t : Turn) (wf′ : List Float) : Type 0 where
+-- the next vector became the current one, beside it still the next
+pub record Advanced (n : ℕ) (wf : List Float) (change : Float) (wf′ : List Float) : Type 0 where
   pub front : Front wf (n + n) wf′
   pub current : currentIn n wf′ ≡ nextIn n wf
-  pub change : t .change ≡ absoluteChange n (currentIn n wf) (nextIn n wf)
-  pub dangling : t .dangling ≡ danglingSum n outs (nextIn n wf)
+  pub changed : change ≡ absoluteChange n (currentIn n wf) (nextIn n wf)
 
--- a round was done; t has the change, and the dangling sum of what it made
-pub record RoundDone (n : ℕ) (outs : List Float) (next : List Float → List Float) (wf : List Float) (t : Turn) (wf′ : List Float) : Type 0 where
+-- a round was done
+pub record RoundDone (n : ℕ) (next : List Float → List Float) (wf : List Float) (change : Float) (wf′ : List Float) : Type 0 where
   pub front : Front wf (n + n) wf′
   pub current : currentIn n wf′ ≡ next (currentIn n wf)
-  pub change : t .change ≡ absoluteChange n (currentIn n wf) (currentIn n wf′)
-  pub dangling : t .dangling ≡ danglingSum n outs (currentIn n wf′)
+  pub changed : change ≡ absoluteChange n (currentIn n wf) (currentIn n wf′)
 
 -- a given vector has n entries, and the workspace has room for the four vectors
 pub record PersonalPre (n : ℕ) (flag : Bool) (xs wf : List Float) : Type 0 where

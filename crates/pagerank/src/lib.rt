@@ -21,18 +21,12 @@ ghost use Rattle.rounds.specs.Steps.{RoundsDone};
 ghost use Rattle.rounds.specs.Rounds.{after, outcome, outcomeFrom};
 ghost use Rattle.rounds.specs.Vectors.{entry, currentIn, nextIn, Vectors};
 ghost use Rattle.pagerank.specs.Links.{linksIn, sharesIn, outsIn, one, double, gives, sumOf, divisorOf, dividedAt};
-ghost use Rattle.pagerank.specs.PageRank.{dangles, danglingSum, pagerankNode, pagerankNext, pagerankStep, startWrong, pagerankOutcome};
+ghost use Rattle.pagerank.specs.PageRank.{withDangling, danglingSum, pagerankNode, pagerankNext, pagerankStep, startWrong, pagerankOutcome};
 ghost use Rattle.pagerank.specs.Personalized.{personalIn, personalBase, gainsPart, personalNode, personalNext, personalStep, countsOf, personalOf, dampingWrong, personalizedOutcome};
 ghost use Rattle.pagerank.specs.Steps.{LinksPre, PreparePre, Prepared, CopyPre, WeightsCopied, writtenBy, DividePre, Divided, Advanced, RoundDone, PersonalPre, PersonalBegun};
 
 // The sum below which a start is refused.
 const TINY: f64 = 0.000000001;
-
-// What a round leaves for the next: the summed absolute change, and the dangling sum of the vector it made.
-pub struct Turn {
-    pub change: f64,
-    pub dangling: f64,
-}
 
 // From 1/n for each node, or from the given start divided by its sum.
 // Refuses SIZE, NODE, NUMBER, LENGTH, START, ROOM, in this order. Running out of rounds is DONE, not settled.
@@ -159,19 +153,17 @@ fn run_on(nodes: usize, settings: Settings, w: &[u32], wf: &mut [f64]) -> Rounds
     let damping = settings.damping;
     let limit = settings.limit;
     let bound = settings.tolerance * std::num::nearest_u64_to_f64(nodes as u64);
-    let mut dangling = dangling_sum(nodes, wf);
     let mut k = 0u64;
     while k < limit {
-        let turn = round(nodes, damping, dangling, w, wf);
+        let change = round(nodes, damping, w, wf);
         k += 1;
-        if turn.change < bound {
+        if change < bound {
             return Rounds {
                 settings,
                 rounds: k,
                 settled: true,
             };
         }
-        dangling = turn.dangling;
     }
     Rounds {
         settings,
@@ -180,12 +172,13 @@ fn run_on(nodes: usize, settings: Settings, w: &[u32], wf: &mut [f64]) -> Rounds
     }
 }
 
-// One round, from the dangling sum of the current vector.
-fn round(nodes: usize, damping: f64, dangling: f64, w: &[u32], wf: &mut [f64]) -> Turn
-    requires { ⌜ LinksPre nodes (now w) (now wf) × (dangling ≡ danglingSum nodes (outsIn nodes (now wf)) (currentIn nodes (now wf))) ⌝ }
-    ensures { λ r. ⌜ RoundDone nodes (outsIn nodes (now (wf .entry))) (pagerankNext (linksIn nodes (now (w .entry)) (now (wf .entry))) damping) (now (wf .entry)) r (now (wf .exit)) ⌝ }
+// One round. Gives the summed absolute change.
+fn round(nodes: usize, damping: f64, w: &[u32], wf: &mut [f64]) -> f64
+    requires { ⌜ LinksPre nodes (now w) (now wf) ⌝ }
+    ensures { λ r. ⌜ RoundDone nodes (pagerankNext (linksIn nodes (now (w .entry)) (now (wf .entry))) damping) (now (wf .entry)) r (now (wf .exit)) ⌝ }
 {
     let n = std::num::nearest_u64_to_f64(nodes as u64);
+    let dangling = dangling_sum(nodes, wf);
     let base = (1.0 - damping) / n + dangling * (damping / n);
     regions::fillf(wf, nodes, nodes, base);
     spread(nodes, damping, w, wf);
@@ -232,22 +225,20 @@ fn give(nodes: usize, contribution: f64, w: &[u32], v: usize, wf: &mut [f64])
     }
 }
 
-// The next vector becomes the current one. Gives the summed absolute change, and the dangling sum of that vector.
-fn advance(nodes: usize, wf: &mut [f64]) -> Turn
+// The next vector becomes the current one. Gives the summed absolute change.
+fn advance(nodes: usize, wf: &mut [f64]) -> f64
     requires { ⌜ 4 * nodes ≤ length (now wf) ⌝ }
-    ensures { λ r. ⌜ Advanced nodes (outsIn nodes (now (wf .entry))) (now (wf .entry)) r (now (wf .exit)) ⌝ }
+    ensures { λ r. ⌜ Advanced nodes (now (wf .entry)) r (now (wf .exit)) ⌝ }
 {
     let mut change = 0.0;
-    let mut dangling = 0.0;
     let mut i = 0;
     while i < nodes {
         let next = wf[nodes + i];
         change = change + roots::abs(wf[i] - next);
-        dangling = with_dangling(wf[2 * nodes + i], next, dangling);
         wf[i] = next;
         i += 1;
     }
-    Turn { change, dangling }
+    change
 }
 
 // The dangling sum of the current vector.
@@ -258,18 +249,20 @@ fn dangling_sum(nodes: usize, wf: &[f64]) -> f64
     let mut dangling = 0.0;
     let mut i = 0;
     while i < nodes {
-        dangling = with_dangling(wf[2 * nodes + i], wf[i], dangling);
+        dangling = with_dangling(nodes, i, wf, dangling);
         i += 1;
     }
     dangling
 }
 
 // A node whose out-weight is exactly zero adds its score.
-fn with_dangling(out: f64, x: f64, sum: f64) -> f64
-    ensures { λ r. ⌜ r ≡ dangles out x sum ⌝ }
+fn with_dangling(nodes: usize, i: usize, wf: &[f64], sum: f64) -> f64
+    requires { ⌜ (4 * nodes ≤ length (now wf)) × (i < nodes) ⌝ }
+    ensures { λ r. ⌜ r ≡ withDangling (outsIn nodes (now (wf .entry))) (currentIn nodes (now (wf .entry))) i sum ⌝ }
 {
+    let out = wf[2 * nodes + i];
     if out == 0.0 {
-        return sum + x;
+        return sum + wf[i];
     }
     sum
 }
@@ -435,9 +428,9 @@ fn personal_run(nodes: usize, settings: Settings, w: &[u32], wf: &mut [f64]) -> 
     let bound = settings.tolerance * std::num::nearest_u64_to_f64(nodes as u64);
     let mut done = 0u64;
     while done < limit {
-        let made = personal_round(nodes, damping, w, wf);
+        let moved = personal_round(nodes, damping, w, wf);
         done += 1;
-        if made.change < bound {
+        if moved < bound {
             return Rounds {
                 settings,
                 rounds: done,
@@ -452,10 +445,10 @@ fn personal_run(nodes: usize, settings: Settings, w: &[u32], wf: &mut [f64]) -> 
     }
 }
 
-// One round.
-fn personal_round(nodes: usize, damping: f64, w: &[u32], wf: &mut [f64]) -> Turn
+// One round. Gives the summed absolute change.
+fn personal_round(nodes: usize, damping: f64, w: &[u32], wf: &mut [f64]) -> f64
     requires { ⌜ LinksPre nodes (now w) (now wf) ⌝ }
-    ensures { λ r. ⌜ RoundDone nodes (outsIn nodes (now (wf .entry))) (personalNext (linksIn nodes (now (w .entry)) (now (wf .entry))) damping (personalIn nodes (now (wf .entry)))) (now (wf .entry)) r (now (wf .exit)) ⌝ }
+    ensures { λ r. ⌜ RoundDone nodes (personalNext (linksIn nodes (now (w .entry)) (now (wf .entry))) damping (personalIn nodes (now (wf .entry)))) (now (wf .entry)) r (now (wf .exit)) ⌝ }
 {
     personal_bases(nodes, damping, wf);
     personal_spread(nodes, damping, w, wf);

@@ -1,4 +1,4 @@
--- `pagerank::advance` meets its contract: after i nodes their entries are moved, and their changes and dangling scores added. Assumes nothing.
+-- `pagerank::advance` meets its contract: after i nodes their entries are moved, and their changes added. Assumes nothing.
 use Prim.Native.Nat.{ℕ, _+_, _*_, _-_, _≤_}
 use native.Mathlib.Omega.{arith}
 use lib.ListN.{length}
@@ -9,10 +9,10 @@ use Rattle.pagerank.proofs.advance.Statement.{statement}
 use Rattle.pagerank.proofs.advance.Tie as tie
 
 abbrev Inv-loop : tie.InvT-loop
-Inv-loop nodes wf₀ change₀ dangling₀ i₀ wf change dangling i = (i ≤ nodes) × Advancing nodes wf₀ i change dangling wf
+Inv-loop nodes wf₀ change₀ i₀ wf change i = (i ≤ nodes) × Advancing nodes wf₀ i change wf
 
 abbrev μ-loop : tie.MeasureT-loop
-μ-loop nodes wf₀ change₀ dangling₀ i₀ wf change dangling i = nodes - i
+μ-loop nodes wf₀ change₀ i₀ wf change i = nodes - i
 
 loop-holds : tie.Need-loop-holds Inv-loop μ-loop
 unfolding ofBits
@@ -36,26 +36,11 @@ slice-read-abs c = omega (arith, c .before .before .before .before .before .pre,
 abs-requires : tie.Need-abs-requires Inv-loop μ-loop
 abs-requires c κs = search needs
 
-mul-with-dangling : tie.Need-mul-with-dangling Inv-loop μ-loop
-mul-with-dangling c = omega (arith, c .before .before .before .before .before .before .pre, c .before .before .before .before .loop .inv .1 .copied .frame .long, c .before .before .before .loop-test .taken)
-
-add-with-dangling : tie.Need-add-with-dangling Inv-loop μ-loop
-add-with-dangling c = omega (arith, c .before .before .before .before .before .before .pre, c .before .before .before .before .loop .inv .1 .copied .frame .long, c .before .before .before .loop-test .taken)
-
-mul-with-dangling-2 : tie.Need-mul-with-dangling-2 Inv-loop μ-loop
-mul-with-dangling-2 c = omega (arith, c .before .before .before .before .before .before .pre, c .before .before .before .before .loop .inv .1 .copied .frame .long, c .before .before .before .loop-test .taken)
-
-slice-read-with-dangling : tie.Need-slice-read-with-dangling Inv-loop μ-loop
-slice-read-with-dangling c = omega (arith, c .before .before .before .before .before .before .before .pre, c .before .before .before .before .before .loop .inv .1 .copied .frame .long, c .before .before .before .before .loop-test .taken)
-
-with-dangling-requires : tie.Need-with-dangling-requires Inv-loop μ-loop
-with-dangling-requires c κs = search needs
-
 mul-wf : tie.Need-mul-wf Inv-loop μ-loop
-mul-wf c = omega (arith, c .before .before .before .before .before .before .before .before .pre, c .before .before .before .before .before .before .loop .inv .1 .copied .frame .long, c .before .before .before .before .before .loop-test .taken)
+mul-wf c = omega (arith, c .before .before .before .before .before .before .pre, c .before .before .before .before .loop .inv .1 .copied .frame .long, c .before .before .before .loop-test .taken)
 
 slice-write-wf : tie.Need-slice-write-wf Inv-loop μ-loop
-slice-write-wf c = omega (arith, c .before .before .before .before .before .before .before .before .pre, c .before .before .before .before .before .before .loop .inv .1 .copied .frame .long, c .before .before .before .before .before .loop-test .taken)
+slice-write-wf c = omega (arith, c .before .before .before .before .before .before .pre, c .before .before .before .before .loop .inv .1 .copied .frame .long, c .before .before .before .loop-test .taken)
 
 add-i : tie.Need-add-i Inv-loop μ-loop
 add-i c = search needs
@@ -64,13 +49,13 @@ loop-less : tie.Need-loop-less Inv-loop μ-loop
 loop-less c = search needs
 
 loop-again : tie.Need-loop-again Inv-loop μ-loop
-loop-again c = (omega (arith, c .before .before .before .before .before .loop-test .taken), advancing-more _ _ (c .before .before .before .before .before .before .before .before .pre) _ _ _ _ (c .before .before .before .before .before .loop-test .taken) (c .before .before .before .before .before .before .loop .inv .1) (c .before .before .abs .ensures) (c .with-dangling .ensures))
+loop-again c = (omega (arith, c .before .before .before .loop-test .taken), advancing-more _ _ (c .before .before .before .before .before .before .pre) _ _ _ (c .before .before .before .loop-test .taken) (c .before .before .before .before .loop .inv .1) (c .abs .ensures))
 
 same-length : tie.Need-same-length Inv-loop μ-loop
 same-length c = c .before .loop .inv .1 .copied .frame .long
 
 returns : tie.Need-returns Inv-loop μ-loop
-returns c = advancing-done _ _ (c .before .before .before .pre) (c .before .loop .i) _ _ _ (omega (arith, c .before .loop .inv .0, c .loop-test .left)) (c .before .loop .inv .1)
+returns c = advancing-done _ _ (c .before .before .before .pre) (c .before .loop .i) _ _ (omega (arith, c .before .loop .inv .0, c .loop-test .left)) (c .before .loop .inv .1)
 
 pub advance-spec : {M : Type 1} → statement M
 advance-spec =
@@ -85,11 +70,6 @@ advance-spec =
     mul-abs
     slice-read-abs
     abs-requires
-    mul-with-dangling
-    add-with-dangling
-    mul-with-dangling-2
-    slice-read-with-dangling
-    with-dangling-requires
     mul-wf
     slice-write-wf
     add-i

@@ -1,11 +1,9 @@
 -- `pagerank::personal_run` meets its contract: the rounds left from the kth state end where all do. Assumes nothing.
-use mathlib.Core.Path.{_≡_, refl, ap}
+use mathlib.Core.Path.{_≡_, ap}
 use Prim.Native.Nat.{ℕ, _-_, _≤_}
 use native.Mathlib.Omega.{arith}
 use lib.Ieee.{binary64, mul}
-use Rattle.rounds.specs.Vectors.{currentIn}
-use Rattle.pagerank.specs.Links.{linksIn, outsIn}
-use Rattle.pagerank.specs.PageRank.{danglingSum}
+use Rattle.pagerank.specs.Links.{linksIn}
 use Rattle.pagerank.specs.Personalized.{personalIn, personalNext, personalStep}
 use Rattle.pagerank.proofs.Nodes.{pre-kept, Running, running-none, running-more, running-met, running-over}
 use Rattle.pagerank.proofs.Personal.{personal-is, personal-round-kept}
@@ -15,7 +13,7 @@ use Rattle.pagerank.proofs.personal_run.Tie as tie
 
 abbrev Inv-loop : tie.InvT-loop
 Inv-loop nodes settings w wf₀ damping limit bound k₀ wf k =
-    (k ≤ settings .limit) × Running nodes (outsIn nodes wf₀) (personalNext (linksIn nodes w wf₀) (settings .damping) (personalIn nodes wf₀)) (personalStep (linksIn nodes w wf₀) (settings .damping) (settings .tolerance) (personalIn nodes wf₀)) (settings .tolerance) (personal-is (linksIn nodes w wf₀) (settings .damping) (settings .tolerance) (personalIn nodes wf₀)) (settings .limit) wf₀ k (danglingSum nodes (outsIn nodes wf₀) (currentIn nodes wf)) wf
+    (k ≤ settings .limit) × Running nodes (personalNext (linksIn nodes w wf₀) (settings .damping) (personalIn nodes wf₀)) (personalStep (linksIn nodes w wf₀) (settings .damping) (settings .tolerance) (personalIn nodes wf₀)) (settings .tolerance) (personal-is (linksIn nodes w wf₀) (settings .damping) (settings .tolerance) (personalIn nodes wf₀)) (settings .limit) wf₀ k wf
 
 abbrev μ-loop : tie.MeasureT-loop
 μ-loop nodes settings w wf₀ damping limit bound k₀ wf k = settings .limit - k
@@ -24,7 +22,7 @@ nearest-u64-to-f64-requires : tie.Need-nearest-u64-to-f64-requires Inv-loop μ-l
 nearest-u64-to-f64-requires c κs = search needs
 
 loop-holds : tie.Need-loop-holds Inv-loop μ-loop
-loop-holds c = let s = c .before .before .before .before in (omega arith, running-none (s .args .nodes) (outsIn (s .args .nodes) (s .args .wf .now)) (personalNext (linksIn (s .args .nodes) (s .args .w .now) (s .args .wf .now)) (s .args .settings .damping) (personalIn (s .args .nodes) (s .args .wf .now))) (personalStep (linksIn (s .args .nodes) (s .args .w .now) (s .args .wf .now)) (s .args .settings .damping) (s .args .settings .tolerance) (personalIn (s .args .nodes) (s .args .wf .now))) (s .args .settings .tolerance) (personal-is (linksIn (s .args .nodes) (s .args .w .now) (s .args .wf .now)) (s .args .settings .damping) (s .args .settings .tolerance) (personalIn (s .args .nodes) (s .args .wf .now))) (s .args .settings .limit) (s .args .wf .now) refl)
+loop-holds c = let s = c .before .before .before .before in (omega arith, running-none (s .args .nodes) (personalNext (linksIn (s .args .nodes) (s .args .w .now) (s .args .wf .now)) (s .args .settings .damping) (personalIn (s .args .nodes) (s .args .wf .now))) (personalStep (linksIn (s .args .nodes) (s .args .w .now) (s .args .wf .now)) (s .args .settings .damping) (s .args .settings .tolerance) (personalIn (s .args .nodes) (s .args .wf .now))) (s .args .settings .tolerance) (personal-is (linksIn (s .args .nodes) (s .args .w .now) (s .args .wf .now)) (s .args .settings .damping) (s .args .settings .tolerance) (personalIn (s .args .nodes) (s .args .wf .now))) (s .args .settings .limit) (s .args .wf .now))
 
 personal-round-requires : tie.Need-personal-round-requires Inv-loop μ-loop
 personal-round-requires c κs = let s = c .before .before .before .before .before .before .before in pre-kept _ _ (s .args .settings .damping) _ (s .pre) (c .before .before .loop .inv .1 .front)
@@ -33,27 +31,27 @@ add-done : tie.Need-add-done Inv-loop μ-loop
 add-done c = search needs
 
 same-length : tie.Need-same-length Inv-loop μ-loop
-same-length c = omega (arith, c .before .before .before .before .personal-round .ensures .front .long, c .before .before .before .before .before .before .before .loop .inv .1 .front .long)
+same-length c = omega (arith, c .before .before .before .personal-round .ensures .front .long, c .before .before .before .before .before .before .loop .inv .1 .front .long)
 
 returns : tie.Need-returns Inv-loop μ-loop
-returns c = let s = c .before .before .before .before .before .before .before .before .before .before .before .before in
-    let at = c .before .before .before .before .before .before .before in
-    running-met (s .args .nodes) (outsIn (s .args .nodes) (s .args .wf .now)) (personalNext (linksIn (s .args .nodes) (s .args .w .now) (s .args .wf .now)) (s .args .settings .damping) (personalIn (s .args .nodes) (s .args .wf .now))) (personalStep (linksIn (s .args .nodes) (s .args .w .now) (s .args .wf .now)) (s .args .settings .damping) (s .args .settings .tolerance) (personalIn (s .args .nodes) (s .args .wf .now))) (s .args .settings .tolerance) (personal-is (linksIn (s .args .nodes) (s .args .w .now) (s .args .wf .now)) (s .args .settings .damping) (s .args .settings .tolerance) (personalIn (s .args .nodes) (s .args .wf .now))) (s .args .settings .limit) (s .args .wf .now) (at .loop .inv .1) (c .before .before .before .before .before .before .loop-test .taken) (personal-round-kept _ _ _ (s .pre) (at .loop .inv .1 .front) (c .before .before .before .before .personal-round .ensures)) (ap (mul binary64 (s .args .settings .tolerance)) (c .before .before .before .before .before .before .before .before .before .nearest-u64-to-f64 .ensures)) (s .args .settings) (c .if1 .taken)
+returns c = let s = c .before .before .before .before .before .before .before .before .before .before .before in
+    let at = c .before .before .before .before .before .before in
+    running-met (s .args .nodes) (personalNext (linksIn (s .args .nodes) (s .args .w .now) (s .args .wf .now)) (s .args .settings .damping) (personalIn (s .args .nodes) (s .args .wf .now))) (personalStep (linksIn (s .args .nodes) (s .args .w .now) (s .args .wf .now)) (s .args .settings .damping) (s .args .settings .tolerance) (personalIn (s .args .nodes) (s .args .wf .now))) (s .args .settings .tolerance) (personal-is (linksIn (s .args .nodes) (s .args .w .now) (s .args .wf .now)) (s .args .settings .damping) (s .args .settings .tolerance) (personalIn (s .args .nodes) (s .args .wf .now))) (s .args .settings .limit) (s .args .wf .now) (at .loop .inv .1) (c .before .before .before .before .before .loop-test .taken) (personal-round-kept _ _ _ (s .pre) (at .loop .inv .1 .front) (c .before .before .before .personal-round .ensures)) (ap (mul binary64 (s .args .settings .tolerance)) (c .before .before .before .before .before .before .before .before .nearest-u64-to-f64 .ensures)) (s .args .settings) (c .if1 .taken)
 
 loop-less : tie.Need-loop-less Inv-loop μ-loop
 loop-less c = search needs
 
 loop-again : tie.Need-loop-again Inv-loop μ-loop
-loop-again c = let s = c .before .before .before .before .before .before .before .before .before .before .before .before in
-    let at = c .before .before .before .before .before .before .before in
-    let r = running-more (s .args .nodes) (outsIn (s .args .nodes) (s .args .wf .now)) (personalNext (linksIn (s .args .nodes) (s .args .w .now) (s .args .wf .now)) (s .args .settings .damping) (personalIn (s .args .nodes) (s .args .wf .now))) (personalStep (linksIn (s .args .nodes) (s .args .w .now) (s .args .wf .now)) (s .args .settings .damping) (s .args .settings .tolerance) (personalIn (s .args .nodes) (s .args .wf .now))) (s .args .settings .tolerance) (personal-is (linksIn (s .args .nodes) (s .args .w .now) (s .args .wf .now)) (s .args .settings .damping) (s .args .settings .tolerance) (personalIn (s .args .nodes) (s .args .wf .now))) (s .args .settings .limit) (s .args .wf .now) (at .loop .inv .1) (c .before .before .before .before .before .before .loop-test .taken) (personal-round-kept _ _ _ (s .pre) (at .loop .inv .1 .front) (c .before .before .before .before .personal-round .ensures)) (ap (mul binary64 (s .args .settings .tolerance)) (c .before .before .before .before .before .before .before .before .before .nearest-u64-to-f64 .ensures)) (c .if1 .left) in
-    (omega (arith, c .before .before .before .before .before .before .loop-test .taken), record { front = r .front; dangling-is = refl; rounds-left = r .rounds-left })
+loop-again c = let s = c .before .before .before .before .before .before .before .before .before .before .before in
+    let at = c .before .before .before .before .before .before in
+    let r = running-more (s .args .nodes) (personalNext (linksIn (s .args .nodes) (s .args .w .now) (s .args .wf .now)) (s .args .settings .damping) (personalIn (s .args .nodes) (s .args .wf .now))) (personalStep (linksIn (s .args .nodes) (s .args .w .now) (s .args .wf .now)) (s .args .settings .damping) (s .args .settings .tolerance) (personalIn (s .args .nodes) (s .args .wf .now))) (s .args .settings .tolerance) (personal-is (linksIn (s .args .nodes) (s .args .w .now) (s .args .wf .now)) (s .args .settings .damping) (s .args .settings .tolerance) (personalIn (s .args .nodes) (s .args .wf .now))) (s .args .settings .limit) (s .args .wf .now) (at .loop .inv .1) (c .before .before .before .before .before .loop-test .taken) (personal-round-kept _ _ _ (s .pre) (at .loop .inv .1 .front) (c .before .before .before .personal-round .ensures)) (ap (mul binary64 (s .args .settings .tolerance)) (c .before .before .before .before .before .before .before .before .nearest-u64-to-f64 .ensures)) (c .if1 .left) in
+    (omega (arith, c .before .before .before .before .before .loop-test .taken), r)
 
 same-length-2 : tie.Need-same-length-2 Inv-loop μ-loop
 same-length-2 c = c .before .loop .inv .1 .front .long
 
 returns-2 : tie.Need-returns-2 Inv-loop μ-loop
-returns-2 c = let s = c .before .before .before .before .before .before in running-over (s .args .nodes) (outsIn (s .args .nodes) (s .args .wf .now)) (personalNext (linksIn (s .args .nodes) (s .args .w .now) (s .args .wf .now)) (s .args .settings .damping) (personalIn (s .args .nodes) (s .args .wf .now))) (personalStep (linksIn (s .args .nodes) (s .args .w .now) (s .args .wf .now)) (s .args .settings .damping) (s .args .settings .tolerance) (personalIn (s .args .nodes) (s .args .wf .now))) (s .args .settings .tolerance) (personal-is (linksIn (s .args .nodes) (s .args .w .now) (s .args .wf .now)) (s .args .settings .damping) (s .args .settings .tolerance) (personalIn (s .args .nodes) (s .args .wf .now))) (s .args .settings .limit) (s .args .wf .now) (s .args .settings) (c .loop-test .left) (c .before .loop .inv .1)
+returns-2 c = let s = c .before .before .before .before .before .before in running-over (s .args .nodes) (personalNext (linksIn (s .args .nodes) (s .args .w .now) (s .args .wf .now)) (s .args .settings .damping) (personalIn (s .args .nodes) (s .args .wf .now))) (personalStep (linksIn (s .args .nodes) (s .args .w .now) (s .args .wf .now)) (s .args .settings .damping) (s .args .settings .tolerance) (personalIn (s .args .nodes) (s .args .wf .now))) (s .args .settings .tolerance) (personal-is (linksIn (s .args .nodes) (s .args .w .now) (s .args .wf .now)) (s .args .settings .damping) (s .args .settings .tolerance) (personalIn (s .args .nodes) (s .args .wf .now))) (s .args .settings .limit) (s .args .wf .now) (s .args .settings) (c .loop-test .left) (c .before .loop .inv .1)
 
 pub personal-run-spec : {M : Type 1} → statement M
 personal-run-spec =
