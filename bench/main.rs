@@ -101,8 +101,7 @@ fn ours(call: Call, l: &Lists, s: &mut Slices) -> (u32, u64, usize) {
     }
 }
 
-fn ours_did(call: Call, l: &Lists, s: &mut Slices) -> Did {
-    let (answer, _, count) = ours(call, l, s);
+fn ours_did(call: Call, l: &Lists, s: &Slices, answer: u32, count: usize) -> Did {
     let results = match call {
         _ if answer != 0 => Vec::new(),
         Voterank => s.r32[..count].iter().map(|v| *v as u64).collect(),
@@ -203,15 +202,20 @@ fn timed<T>(f: impl FnOnce() -> T) -> (Duration, T) {
     (spent() - started, result)
 }
 
-/// Best times of both sides, alternating; short calls are repeated within a measurement.
-fn race(call: Call, l: &Lists, built: &Built, s: &mut Slices, budget: Duration) -> (f64, f64) {
-    let (mut best_ours, mut best_theirs) = (f64::MAX, f64::MAX);
+/// Best times of both sides, alternating, from the first ones on; short calls are repeated within a measurement, one that
+/// takes a second is measured only twice, and one that takes four seconds on a directed graph once.
+fn race(call: Call, l: &Lists, built: &Built, s: &mut Slices, first: (Duration, Duration), budget: Duration) -> (f64, f64) {
+    let (mut best_ours, mut best_theirs) = (first.0.as_secs_f64(), first.1.as_secs_f64());
     let repeat = |once: Duration| (Duration::from_millis(2).as_nanos() / once.as_nanos().max(1)).clamp(1, 1000) as u32;
-    let often_ours = repeat(timed(|| ours(call, l, s)).0);
-    let often_theirs = repeat(timed(|| theirs_on(call, built)).0);
+    let (often_ours, often_theirs) = (repeat(first.0), repeat(first.1));
+    let least = match (first.0 + first.1).as_secs() {
+        0 => 3,
+        1..=3 => 1,
+        _ => (l.directed == 0) as u32,
+    };
     let started = Instant::now();
     let mut turns = 0;
-    while turns < 3 || turns < 50 && started.elapsed() < budget {
+    while turns < least || turns < 50 && started.elapsed() < budget {
         let (time, _) = timed(|| (0..often_ours).for_each(|_| { black_box(ours(call, l, s)); }));
         best_ours = best_ours.min(time.as_secs_f64() / often_ours as f64);
         let (time, _) = timed(|| (0..often_theirs).for_each(|_| drop(black_box(theirs_on(call, built)))));
@@ -219,6 +223,22 @@ fn race(call: Call, l: &Lists, built: &Built, s: &mut Slices, budget: Duration) 
         turns += 1;
     }
     (best_ours, best_theirs)
+}
+
+/// What the ratio to the Rust is to reach at least, on the graphs of 4,096 nodes and 32,768 edges.
+fn bar(call: Call) -> f64 {
+    match call {
+        LocalReaching | GlobalReaching | Voterank => 4.0,
+        Pagerank | Personalized | Eigenvector | Katz => 1.5,
+        _ => 3.0,
+    }
+}
+
+/// igraph's times on a graph, in seconds, as `bench/run --igraph` left them.
+fn igraph(name: &str) -> Vec<(String, f64)> {
+    let text = std::fs::read_to_string(format!("target/differential/igraph-{name}")).unwrap_or_default();
+    let row = |line: &str| line.split_once(' ').map(|(call, time)| (call.to_string(), time.parse().expect("a time")));
+    text.lines().filter_map(row).collect()
 }
 
 /// The graphs, by name.
@@ -240,10 +260,11 @@ fn named(name: &str) -> Lists {
         "counted" => graphs::uniform(&mut dice, 512, 4096, 0),
         "chain" => list(4096, (0..4095).map(|v| (v, v + 1)).collect()),
         "star" => list(4096, (1..4096).map(|v| (0, v)).collect()),
+        // 28 by 28: the path counts between its corners stay below 2^53
         "grid" => {
-            let right = (0..4096).filter(|v| v % 64 != 63).map(|v| (v, v + 1));
-            let down = (0..4096 - 64).map(|v| (v, v + 64));
-            list(4096, right.chain(down).collect())
+            let right = (0..784).filter(|v| v % 28 != 27).map(|v| (v, v + 1));
+            let down = (0..784 - 28).map(|v| (v, v + 28));
+            list(784, right.chain(down).collect())
         }
         _ => panic!("no graph {name}"),
     }
@@ -271,27 +292,40 @@ fn table(names: &[&str], calls: &[&str], budget: Duration) -> bool {
         let l = named(name);
         let mut s = Slices::of(&l);
         let building = (0..5).map(|_| timed(|| drop(build(&l))).0.as_secs_f64()).fold(f64::MAX, f64::min);
-        let built = build(&l);
+        let (built, beside) = (build(&l), igraph(name));
         println!("\n### {name}: {} nodes, {} edges; the Rust builds its graph in {}\n", l.nodes, l.m(), shown(building));
-        println!("| call | ours | the Rust | ratio | ratio with building | rounds | same bits |");
-        println!("|---|---|---|---|---|---|---|");
+        println!("| call | ours | the Rust | ratio | bar | ratio with building | igraph | its ratio | rounds | same bits |");
+        println!("|---|---|---|---|---|---|---|---|---|---|");
         for (call, word) in CALLS {
             if !present(call) || !calls.is_empty() && !calls.contains(&word) {
                 continue;
             }
             eprintln!("  {name}: {word}");
+            let (first, (answer, rounds, count)) = timed(|| ours(call, &l, &mut s));
             if call == Survey {
                 let best = (0..20).map(|_| timed(|| ours(call, &l, &mut s)).0.as_secs_f64()).fold(f64::MAX, f64::min);
-                println!("| {word} | {} | - | - | - | - | - |", shown(best));
+                println!("| {word} | {} | - | - | - | - | - | - | - | - |", shown(best));
                 continue;
             }
-            let rounds = ours(call, &l, &mut s).1;
-            let same = ours_did(call, &l, &mut s) == theirs_did(theirs_on(call, &built), &l);
+            let did = ours_did(call, &l, &s, answer, count);
+            let (theirs_first, returned) = timed(|| theirs_on(call, &built));
+            let same = did == theirs_did(returned, &l);
             good &= same;
-            let (a, b) = race(call, &l, &built, &mut s, budget);
+            let (a, b) = race(call, &l, &built, &mut s, (first, theirs_first), budget);
+            let bar = match (l.m() == 32768, b / a >= bar(call)) {
+                (false, _) => "-".into(),
+                (true, true) => format!("{}", bar(call)),
+                (true, false) => format!("{}: short", bar(call)),
+            };
+            let (their_time, their_ratio) = match beside.iter().find(|row| row.0 == word) {
+                Some((_, time)) => (shown(*time), format!("{:.2}", time / a)),
+                None => ("-".into(), "-".into()),
+            };
             let rounds = if call.iterates() { rounds.to_string() } else { "-".into() };
             let same = if same { "yes" } else { "NO" };
-            println!("| {word} | {} | {} | {:.2} | {:.2} | {rounds} | {same} |", shown(a), shown(b), b / a, (b + building) / a);
+            let (ratio, with_building) = (b / a, (b + building) / a);
+            let (a, b) = (shown(a), shown(b));
+            println!("| {word} | {a} | {b} | {ratio:.2} | {bar} | {with_building:.2} | {their_time} | {their_ratio} | {rounds} | {same} |");
         }
     }
     good
@@ -353,9 +387,9 @@ fn edges(name: &str) {
 fn main() {
     let words: Vec<String> = std::env::args().skip(1).collect();
     let words: Vec<&str> = words.iter().map(String::as_str).collect();
-    let budget = Duration::from_millis(1500);
+    let (budget, little) = (Duration::from_millis(1000), Duration::from_millis(100));
     match words[..] {
-        ["table"] => std::process::exit(!(table(&FULL, &[], budget) & table(&OTHERS, &[], budget)) as i32),
+        ["table"] => std::process::exit(!(table(&FULL, &[], budget) & table(&OTHERS, &[], little)) as i32),
         ["table", name, ref calls @ ..] => std::process::exit(!table(&[name], calls, budget) as i32),
         ["growth"] => growth(),
         ["once", side, call] => once(side, call),
