@@ -112,7 +112,7 @@ module _ {g : Graph} {w : List ℕ} {Q first last base : ℕ} (S : Slots g w Q f
   filled′ y h (inr n) = omega (arith, ends-other y h n, offset y h, H .filled y h, ap length (others y h n))
 
   -- another node's entry stands elsewhere
-  elsewhere : (y i : ℕ) → y < g .nodes → y ≢ x → i < length (lists y) → getD w (first + y) 0 + i ≢ getD w (last + x) 0
+  pub elsewhere : (y i : ℕ) → y < g .nodes → y ≢ x → i < length (lists y) → getD w (first + y) 0 + i ≢ getD w (last + x) 0
   elsewhere y i h n l e = go (below-or-not x y)
     where
       go : (x < y) ⊎ (y ≤ x) → ⊥

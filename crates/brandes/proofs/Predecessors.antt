@@ -66,7 +66,7 @@ by-long d w v seen = go (eqb (d v + 1) (d w))
     go true = omega (arith, copies-long v w seen)
     go false = omega arith
 
-by-mem : (d : ℕ → ℕ) (w v : ℕ) (seen : List ℕ) (y : ℕ) → List·Memᴰ y (enteredBy d w v seen) → y ≡ v
+pub by-mem : (d : ℕ → ℕ) (w v : ℕ) (seen : List ℕ) (y : ℕ) → List·Memᴰ y (enteredBy d w v seen) → y ≡ v
 by-mem d w v seen y = go (eqb (d v + 1) (d w))
   where
     go : (b : Bool) → List·Memᴰ y (cond b (copies v w seen) []) → y ≡ v

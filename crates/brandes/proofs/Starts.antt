@@ -30,7 +30,7 @@ list-mem f (suc n) y m = go (List·Memᴰ·append-cases (listOf f n) m) (list-me
     go (inl k) ih = let r = ih k in (r .0, omega (arith, r .1), r .2)
     go (inr k) ih = (n, omega arith, List·Memᴰ·eq-of-singleton k)
 
-getD-mem : (l : List ℕ) (j : ℕ) → j < length l → List·Memᴰ (getD l j 0) l
+pub getD-mem : (l : List ℕ) (j : ℕ) → j < length l → List·Memᴰ (getD l j 0) l
 getD-mem [] j h = absurd (omega arith)
 getD-mem (x ∷ xs) zero h = List·Memᴰ·head refl
 getD-mem (x ∷ xs) (suc j) h = List·Memᴰ·tail (getD-mem xs j (omega arith))
@@ -49,7 +49,7 @@ module _ {g : Graph} {limit s : ℕ} {w c : List ℕ} {D Q first last base tail 
       go : (i : ℕ) × (i < tail) × (y ≡ getD w (Q + i) 0) → y < g .nodes
       go (i, l, e) = omega (arith, R .found .queued i l .0)
 
-  entries-in : (x : ℕ) → x < g .nodes → (y : ℕ) → List·Memᴰ y (predecessors g s x) → y < g .nodes
+  pub entries-in : (x : ℕ) → x < g .nodes → (y : ℕ) → List·Memᴰ y (predecessors g s x) → y < g .nodes
   entries-in x h y m = order-in y (entered-mem g (dist g s) x (order g s) y m)
 
   end-in : (x : ℕ) → x < g .nodes → getD w (last + x) 0 ≤ getD w (first + g .nodes) 0
@@ -58,7 +58,7 @@ module _ {g : Graph} {limit s : ℕ} {w c : List ℕ} {D Q first last base tail 
   long : (x : ℕ) → x < g .nodes → getD w (last + x) 0 - getD w (first + x) 0 ≡ length (predecessors g s x)
   long x h = omega (arith, R .holding .filled x h)
 
-  held-is : (x : ℕ) → x < g .nodes → heldPredecessors first last base w x ≡ predecessors g s x
+  pub held-is : (x : ℕ) → x < g .nodes → heldPredecessors first last base w x ≡ predecessors g s x
   held-is x h =
       let room : base + getD w (first + x) 0 + (getD w (last + x) 0 - getD w (first + x) 0) ≤ length w = omega (arith, R .holding .filled x h, end-in x h, R .slots .inside) in
       let len : length (heldPredecessors first last base w x) ≡ length (predecessors g s x) = part-long w (base + getD w (first + x) 0) (getD w (last + x) 0 - getD w (first + x) 0) room ∙ long x h in
@@ -72,10 +72,10 @@ module _ {g : Graph} {limit s : ℕ} {w c : List ℕ} {D Q first last base tail 
   queue-in : Q + tail ≤ length w
   queue-in = omega (arith, R .found .taken, R .found .space .room)
 
-  queue-is : part w Q tail ≡ order g s
+  pub queue-is : part w Q tail ≡ order g s
   queue-is = sym (part-list 0 w Q tail queue-in) ∙ R .order
 
-  entries-held : HeldEntries (g .nodes) first last base w
+  pub entries-held : HeldEntries (g .nodes) first last base w
   entries-held =
       record {
         firsts = omega (arith, R .slots .firsts, R .slots .lasts, R .slots .inside);

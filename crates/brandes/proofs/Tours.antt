@@ -149,24 +149,24 @@ tour-none {g} {limit} {s} {D} {Q} {first} {last} {base} {head} {tail} {u} {w} {c
     }
 
 module _ {g : Graph} {limit s D Q first last base head : ℕ} {w₀ c₀ : List ℕ} {u further ways : ℕ} {w c : List ℕ} {p place : ℕ} (N : Tour g limit s D Q first last base head w₀ c₀ u further ways w c p place) where
-  u-lt : u < g .nodes
+  pub u-lt : u < g .nodes
   u-lt = search.node-lt (N .tracked .search)
 
-  rows-in : g .nodes + 1 ≤ D
+  pub rows-in : g .nodes + 1 ≤ D
   rows-in = search.front (N .tracked .search .space)
 
-  row-end : getD w₀ (u + 1) 0 ≡ getD w u 0 + length (entries g u)
+  pub row-end : getD w₀ (u + 1) 0 ≡ getD w u 0 + length (entries g u)
   row-end = sym (N .stays .rows (u + 1) (omega (arith, rows-in, u-lt))) ∙ N .tracked .search .space .rows .long u u-lt
 
   -- before the row's end there is an entry
   module _ (before : p < g .nodes + 1 + getD w₀ (u + 1) 0) where
-    more : N .j < length (entries g u)
+    pub more : N .j < length (entries g u)
     more = omega (arith, row-end, N .at)
 
     pub in-rows : p < length w
     in-rows = omega (arith, row-end, N .at, N .tracked .search .space .rows .long u u-lt, N .tracked .search .space .rows .inside u u-lt, N .tracked .search .space .apart, N .tracked .search .space .room)
 
-    entry-is : getD w p 0 ≡ getD (entries g u) (N .j) 0
+    pub entry-is : getD w p 0 ≡ getD (entries g u) (N .j) 0
     entry-is = ap (λ (i : ℕ). getD w i 0) (N .at) ∙ N .tracked .search .space .rows .entry u (N .j) u-lt more
 
     pub tour-pre : EnterPre (getD w p 0) further ways limit D place last base w c
@@ -236,13 +236,15 @@ module _ {g : Graph} {limit s : ℕ} {w c : List ℕ} {D Q first last base head 
           (omega (arith, ap length come-more, list-long (cells w Q) tail))
       go (inr n) = T .order .ahead k (omega (arith, n))
 
-  held-more : Holding (g .nodes) w first last base (λ x. entered g (dist g s) x (take (head + 1) (listOf (cells w Q) tail)))
-  held-more =
-      holding-same (T .holding)
-      (λ x h.
+  -- with all entries of u seen, u is one of the nodes done
+  pub lists-more : (x : ℕ) → entered g (dist g s) x (take (head + 1) (listOf (cells w Q) tail)) ≡ soFar g (dist g s) (take head (listOf (cells w Q) tail)) u (take (length (entries g u)) (entries g u)) x
+  lists-more x =
       ap (entered g (dist g s) x) done-more
       ∙ sym (so-done g (dist g s) (take head (listOf (cells w Q) tail)) u x)
-      ∙ ap (λ (t : List ℕ). soFar g (dist g s) (take head (listOf (cells w Q) tail)) u t x) (sym (take-all (length (entries g u)) (entries g u) (omega arith))))
+      ∙ ap (λ (t : List ℕ). soFar g (dist g s) (take head (listOf (cells w Q) tail)) u t x) (sym (take-all (length (entries g u)) (entries g u) (omega arith)))
+
+  held-more : Holding (g .nodes) w first last base (λ x. entered g (dist g s) x (take (head + 1) (listOf (cells w Q) tail)))
+  held-more = holding-same (T .holding) (λ x h. lists-more x)
 
   pub track-next : head + 1 < tail → Tracked g limit s w c D Q first last base (head + 1) tail (getD w (Q + (head + 1)) 0) 0
   track-next h =

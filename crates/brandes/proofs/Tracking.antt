@@ -129,30 +129,30 @@ module _ {g : Graph} {limit s : ℕ} {w c : List ℕ} {D Q first last base head 
       go (inl q) = first-dist q
       go (inr n) = omega (arith, label-dist (T .search .space .valid) (T .search .space .start) (T .search .mid) x x-node n, search.node-dist (T .search))
 
-  other-dist : getD w (D + x) 0 ≢ unreached → getD w (D + x) 0 ≢ further → dist g s u + 1 ≢ dist g s x
+  pub other-dist : getD w (D + x) 0 ≢ unreached → getD w (D + x) 0 ≢ further → dist g s u + 1 ≢ dist g s x
   other-dist n m e = m (omega (arith, label-dist (T .search .space .valid) (T .search .space .start) (T .search .mid) x x-node n, search.node-dist (T .search)))
 
   done : List ℕ
   done = take head (listOf (cells w Q) tail)
 
-  seen-one : take (j + 1) (entries g u) ≡ take j (entries g u) ++ (x ∷ [])
+  pub seen-one : take (j + 1) (entries g u) ≡ take j (entries g u) ++ (x ∷ [])
   seen-one = one-more (T .order) (omega (arith, search.before-tail (T .search), list-long (cells w Q) tail)) more x is
 
   in-queue : head < length (listOf (cells w Q) tail)
   in-queue = omega (arith, search.before-tail (T .search), list-long (cells w Q) tail)
 
   -- the entries after this one
-  abbrev later : ℕ → List ℕ
+  abbrev pub later : ℕ → List ℕ
   later = soFar g (dist g s) (take head (listOf (cells w Q) tail)) u (take j (entries g u) ++ (x ∷ []))
 
-  abbrev sofar : ℕ → List ℕ
+  abbrev pub sofar : ℕ → List ℕ
   sofar = soFar g (dist g s) (take head (listOf (cells w Q) tail)) u (take j (entries g u))
 
-  most-now : (y : ℕ) → length (sofar y) ≤ leading g y
+  pub most-now : (y : ℕ) → length (sofar y) ≤ leading g y
   most-now y = most T (take j (entries g u)) (λ v. take-times j (entries g u) v) y
 
   -- where u enters among the predecessors of x there is a place
-  free-slot : dist g s u + 1 ≡ dist g s x → length (sofar x) < leading g x
+  pub free-slot : dist g s u + 1 ≡ dist g s x → length (sofar x) < leading g x
   free-slot e =
       let h : length (later x) ≤ leading g x = most T (take j (entries g u) ++ (x ∷ [])) (λ v. subst (λ (l : List ℕ). times v l ≤ times v (entries g u)) seen-one (take-times (j + 1) (entries g u) v)) x in
       omega (arith, ap length (so-hit g (dist g s) (take head (listOf (cells w Q) tail)) u (take j (entries g u)) x e), length-append (sofar x) (u ∷ []))

@@ -9,7 +9,7 @@ ghost use Rattle.brandes.specs.Tracks.{enters, pushed, PushPre, EnterPre
 ghost use Rattle.brandes.specs.Steps.{passedBack, PassPre, heldPredecessors, leftBy, LeavePre, AccumulatePre, ReleasePre, Released};
 
 // Whether the node enters among the predecessors of its entry.
-fn enters(t: Step) -> bool
+pub fn enters(t: Step) -> bool
     ensures { λ r. ⌜ r ≡ enters t ⌝ }
 {
     match t {
@@ -141,7 +141,7 @@ fn visit(
 }
 
 // The entry x of the node v: it is touched and, where it is one hop further than v, v enters among its predecessors.
-fn enter(
+pub fn enter(
     v: u32,
     x: u32,
     further: u32,
