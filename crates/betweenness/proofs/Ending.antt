@@ -1,6 +1,6 @@
 -- How `betweenness` ends: what its steps leave is the outcome. Assumes nothing.
-use mathlib.Core.Path.{_≡_, sym, ap, _∙_, subst}
-use mathlib.Core.Bool.{Bool, true, false, cond}
+use mathlib.Core.Path.{_≡_, ap, _∙_}
+use mathlib.Core.Bool.{Bool, true, false}
 use mathlib.Core.List.{List}
 use Prim.Native.Nat.{ℕ, _≤_, _<_}
 use native.Mathlib.Omega.{arith}
@@ -8,8 +8,7 @@ use borrow.Author.Tests.{ltb-false, eqb-false}
 use lib.Dec.{ltb}
 use lib.ListN.{length, getD}
 use lib.Ieee.{Float, nan}
-use Rattle.regions.specs.Region.{over, listOf, cleared, zeroF}
-use Rattle.regions.proofs.Fronts.{cleared-afterD}
+use Rattle.regions.specs.Region.{over, listOf}
 use Rattle.graph.specs.declared.Answer.the-variants.{Paths}
 use Rattle.graph.specs.declared.Fronts.{Fronts}
 use Rattle.graph.specs.Answers.{Said, done, refusedWith}
@@ -18,14 +17,14 @@ use Rattle.graph.specs.Fronts.{usualFronts}
 use Rattle.graph.specs.Given.{Given, graphIn}
 use Rattle.graph.specs.Pres.{Passed, Ready, Roomy}
 use Rattle.graph.specs.Refusals.{Tests}
-use Rattle.graph.specs.Left.{Left, left, wiped, lateRefusal, Wiped}
+use Rattle.graph.specs.Left.{left, Wiped}
 use Rattle.graph.proofs.Refusals.{plainTests, plain-ready, plain-fits}
-use Rattle.graph.proofs.Left.{went-on}
 use Rattle.hops.specs.Hops.{pathLimit}
 use Rattle.betweenness.specs.Betweenness.{scaled, scoresAfter, betweennessScores, someExceeds, betweennessOutcome}
 use Rattle.betweenness.specs.Starts.{Within, Scored, StartsPre, StartsPost, PreparePre, Prepared, WritePre}
-use Rattle.betweenness.proofs.Adding.{within-then}
+use Rattle.betweenness.proofs.Following.{within-then}
 use Rattle.betweenness.proofs.Scaling.{scaled-all}
+use Rattle.betweenness.proofs.Wiping.{wipe-asks, ends-paths, ends-done}
 
 -- the rows of the table that can refuse
 abbrev pub scoreTests : Given (List Float) → Tests
@@ -53,13 +52,7 @@ module _ (g : Given (List Float)) (p : Passed (scoreTests g)) where
       within = within-then (A .within) (B .within)
 
       pub wipe-pre : {fr : Fronts} → fr ≡ usualFronts (g .nodes) (length (g .from)) → Roomy fr (length w2) (length c2) (length f2)
-      wipe-pre e =
-          subst (λ (x : Fronts). Roomy x (length w2) (length c2) (length f2)) (sym e)
-          (record {
-            r32 = omega (arith, ready .roomy .r32, within .narrow .long);
-            r64 = omega (arith, ready .roomy .r64, within .wide .long);
-            rf = omega (arith, ready .roomy .rf, within .floats .long);
-          })
+      wipe-pre e = wipe-asks g within e ready
 
       pub write-pre : WritePre (g .nodes) f2 (g .results)
       write-pre = record { few = ready .sound .limits .nodes; held = omega (arith, ready .roomy .rf, within .floats .long); room = fits }
@@ -68,30 +61,14 @@ module _ (g : Given (List Float)) (p : Passed (scoreTests g)) where
       paths = B .paths (g .directed) (edgesOf (g .from) (g .to) (g .weight)) (A .still)
 
       module _ (normalized : Bool) {fr : Fronts} {w3 c3 : List ℕ} {f3 : List Float} (ef : fr ≡ usualFronts (g .nodes) (length (g .from))) (W : Wiped fr w2 c2 f2 w3 c3 f3) where
-        p32 : w3 ≡ cleared 0 (usualFronts (g .nodes) (length (g .from)) .narrow) (g .w32)
-        p32 = W .p32 ∙ ap (λ (x : Fronts). cleared 0 (x .narrow) w2) ef ∙ cleared-afterD 0 (within .narrow)
-
-        p64 : c3 ≡ cleared 0 (usualFronts (g .nodes) (length (g .from)) .wide) (g .w64)
-        p64 = W .p64 ∙ ap (λ (x : Fronts). cleared 0 (x .wide) c2) ef ∙ cleared-afterD 0 (within .wide)
-
-        pf : f3 ≡ cleared zeroF (usualFronts (g .nodes) (length (g .from)) .floats) (g .wf)
-        pf = W .pf ∙ ap (λ (x : Fronts). cleared zeroF (x .floats) f2) ef ∙ cleared-afterD zeroF (within .floats)
-
-        -- what was done, by whether a count was above the limit
-        did : Bool → Left (Said (Unit {0})) (List Float)
-        did b = cond b (lateRefusal g Paths) (wiped g (done (tt {0})) (over (betweennessScores normalized (graphIn g)) (g .results)))
-
         pub ended-paths : r ≡ true → left {A = Said (Unit {0})} (refusedWith Paths) (g .results) w3 c3 f3 ≡ betweennessOutcome normalized g
-        unfolding betweennessOutcome did
-        ended-paths e =
-            let q : left {A = Said (Unit {0})} (refusedWith Paths) (g .results) w3 c3 f3 ≡ lateRefusal g Paths = cc (p32, p64, pf) in
-            q ∙ ap did (sym (paths ∙ e)) ∙ went-on g (scoreTests g) (did (someExceeds pathLimit (graphIn g) (g .nodes))) p
+        unfolding betweennessOutcome
+        ended-paths e = ends-paths g within ef W (scoreTests g) p (over (betweennessScores normalized (graphIn g)) (g .results)) (paths ∙ e)
 
         pub ended-done : r ≡ false → {scores : List Float} → scores ≡ over (listOf (λ v. scaled (g .nodes) (g .directed) normalized (getD f2 v nan)) (g .nodes)) (g .results)
             → left {A = Said (Unit {0})} (done (tt {0})) scores w3 c3 f3 ≡ betweennessOutcome normalized g
-        unfolding betweennessOutcome did betweennessScores
+        unfolding betweennessOutcome betweennessScores
         ended-done e {scores} es =
             let C : Scored (g .nodes) f2 (scoresAfter (graphIn g) (g .nodes)) = B .scored e (g .directed) (edgesOf (g .from) (g .to) (g .weight)) (A .still) (A .scored) in
-            let s : scores ≡ over (betweennessScores normalized (graphIn g)) (g .results) = es ∙ ap (λ (l : List Float). over l (g .results)) (scaled-all (scaled (g .nodes) (g .directed) normalized) C) in
-            let q : left {A = Said (Unit {0})} (done (tt {0})) scores w3 c3 f3 ≡ wiped g (done (tt {0})) (over (betweennessScores normalized (graphIn g)) (g .results)) = cc (p32, p64, pf, s) in
-            q ∙ ap did (sym (paths ∙ e)) ∙ went-on g (scoreTests g) (did (someExceeds pathLimit (graphIn g) (g .nodes))) p
+            ends-done g within ef W (scoreTests g) p (over (betweennessScores normalized (graphIn g)) (g .results)) (paths ∙ e)
+            (es ∙ ap (λ (l : List Float). over l (g .results)) (scaled-all (scaled (g .nodes) (g .directed) normalized) C))

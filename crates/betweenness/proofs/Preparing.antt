@@ -56,6 +56,11 @@ module _ {n : ℕ} (directed : Bool) {from to : List ℕ} {weight : List Float} 
           last-offset : getD w4 (incomingAt n (length from) + n) 0 ≤ 2 * length from
           last-offset = omega (arith, low4 (incomingAt n (length from) + n) (omega arith), I .most (P .some))
 
+          last-row : getD w4 n 0 ≤ 2 * length from
+          last-row =
+              let e : n - 1 + 1 ≡ n = omega (arith, P .some) in
+              omega (arith, low n (omega arith), F .frame .rest 0 n (λ p q. omega arith), ap (λ (i : ℕ). getD w1 i 0) e, B .within (n - 1) (omega (arith, P .some)))
+
           zero-at : (i : ℕ) → i < 2 * n → getD f1 i nan ≡ zeroF
           zero-at i l = ap (λ (k : ℕ). getD f1 k nan) (sym (zero-add i)) ∙ X .at nan i l
 
@@ -76,7 +81,7 @@ module _ {n : ℕ} (directed : Bool) {from to : List ℕ} {weight : List Float} 
                       few = omega (arith, last-offset, P .sound .limits .edges);
                       places = λ x h. omega (arith, I .places x h, low4 (incomingAt n (length from) + x) (omega arith), low4 (incomingAt n (length from) + (x + 1)) (omega arith));
                     };
-                top = omega (arith, last-offset);
+                top = last-offset;
                 fresh =
                     let fr = fresh-filled F Z in
                     record { far = λ v h. low (distancesAt n (length from) + v) (omega arith) ∙ fr .far v h; none = fr .none };
@@ -103,4 +108,5 @@ module _ {n : ℕ} (directed : Bool) {from to : List ℕ} {weight : List Float} 
                     };
                 still = still;
                 scored = scored;
+                most = last-row;
               }

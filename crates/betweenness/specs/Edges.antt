@@ -1,10 +1,10 @@
 -- Edge betweenness (Brandes 2001; graphina's betweenness.rs; document 01, "Edge betweenness"). Definitions only.
 use mathlib.Core.Bool.{Bool, true, false, cond, not, _&&_, _||_}
-use mathlib.Core.List.{List, foldl, foldr, map}
+use mathlib.Core.List.{List, foldr, map}
 use Prim.Native.Nat.{ℕ, zero, suc, _*_, _-_}
-use lib.Dec.{eqb, ltb}
-use lib.ListN.{length, getD, replicate}
-use lib.Ieee.{Float, nan, binary64, ofBits, add, mul, div}
+use lib.Dec.{ltb}
+use lib.ListN.{length, replicate}
+use lib.Ieee.{Float, binary64, ofBits, mul, div}
 use Rattle.regions.specs.Region.{over, zeroF}
 use Rattle.graph.specs.declared.Answer.the-variants.{Paths}
 use Rattle.graph.specs.Answers.{Said, done}
@@ -14,25 +14,9 @@ use Rattle.graph.specs.Refusals.{plainly}
 use Rattle.graph.specs.Left.{Left, wiped, unlessRefused, lateRefusal}
 use Rattle.hops.specs.Hops.{pathLimit}
 use Rattle.brandes.specs.Order.{order, predecessors}
-use Rattle.brandes.specs.Shares.{one, double, share, passed}
+use Rattle.brandes.specs.Shares.{one, double}
+use Rattle.pairs.specs.Totals.{Totals, leaveBy}
 use Rattle.betweenness.specs.Betweenness.{ways, someExceeds}
-
--- delta and the total of each ordered pair, while the nodes leave
-pub record Totals : Type 0 where
-  pub delta : List Float
-  pub total : ℕ → ℕ → Float
-
--- a total of (a, b) with what the predecessor entry v of w adds to the pair (v, w)
-abbrev pub crossing : (ℕ → Float) → ℕ → Float → ℕ → ℕ → Float → ℕ → Float
-crossing counts w grown a b t v = cond (eqb v a && eqb w b) (add binary64 t (share (counts v) (counts w) grown)) t
-
--- w leaves: each predecessor entry v takes its share, and the pair (v, w) the same
-unfoldable pub leaveBy : (ℕ → Float) → (ℕ → List ℕ) → ℕ → Totals → Totals
-leaveBy counts entries w x =
-    record {
-      delta = passed counts entries w (x .delta);
-      total = λ a b. foldl (crossing counts w (add binary64 one (getD (x .delta) w nan)) a b) (x .total a b) (entries w);
-    }
 
 -- from one start s: delta is +0.0 at each node, then the nodes leave in reverse breadth-first order
 unfoldable pub totalsFrom : Graph → ℕ → (ℕ → ℕ → Float) → Totals

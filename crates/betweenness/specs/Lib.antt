@@ -1,3 +1,4 @@
 pub mod Betweenness
 pub mod Starts
 pub mod Edges
+pub mod Crossings

@@ -28,8 +28,8 @@ pub record Still (g : Graph) (m : ℕ) (w c : List ℕ) (f : List Float) : Type 
   pub few : g .nodes < unreached
   pub space : (s : ℕ) → s < g .nodes → Space g s w c (distancesAt (g .nodes) m) (queueAt (g .nodes) m)
   pub slots : Slots g w (queueAt (g .nodes) m) (incomingAt (g .nodes) m) (filledAt (g .nodes) m) (predecessorsAt (g .nodes) m)
-  -- the predecessor entries end within the front
-  pub top : predecessorsAt (g .nodes) m + getD w (incomingAt (g .nodes) m + g .nodes) 0 ≤ usualFronts (g .nodes) m .narrow
+  -- there are places for at most 2m predecessor entries
+  pub top : getD w (incomingAt (g .nodes) m + g .nodes) 0 ≤ 2 * m
   -- no node has a distance, a count, a predecessor entry or a delta
   pub fresh : Fresh (g .nodes) w c (distancesAt (g .nodes) m)
   pub empty : NoEntries (g .nodes) w (incomingAt (g .nodes) m) (filledAt (g .nodes) m)
@@ -94,6 +94,8 @@ pub record Prepared (n : ℕ) (directed : Bool) (from to : List ℕ) (weight : L
   pub within : Within n (length from) w c f w′ c′ f′
   pub still : Still (graphOf n directed (edgesOf from to weight)) (length from) w′ c′ f′
   pub scored : Scored n f′ (scoresAfter (graphOf n directed (edgesOf from to weight)) 0)
+  -- the rows have at most 2m entries
+  pub most : getD w′ n 0 ≤ 2 * length from
 
 -- ---- the end
 

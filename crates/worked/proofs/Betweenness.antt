@@ -16,7 +16,8 @@ use Rattle.hops.specs.Hops.{walks, seek, dist, count, exceedsBelow, exceeds}
 use Rattle.brandes.specs.Order.{holds, entriesOf, levels, copies, entered}
 use Rattle.brandes.specs.Shares.{passed, leave}
 use Rattle.betweenness.specs.Betweenness.{fromStart, scoresAfter, scaled, betweennessScores, someExceeds, betweennessOutcome}
-use Rattle.betweenness.specs.Edges.{EdgeScores, edgeScores, leaveBy, totalsFrom, totalsAfter, scaledTotal, forwardScores, backScores, two, edgeBetweennessOutcome}
+use Rattle.pairs.specs.Totals.{leaveBy}
+use Rattle.betweenness.specs.Edges.{EdgeScores, edgeScores, totalsFrom, totalsAfter, scaledTotal, forwardScores, backScores, two, edgeBetweennessOutcome}
 
 -- 1.0 and 0.5
 abbrev one : Float

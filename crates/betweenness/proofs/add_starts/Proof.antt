@@ -1,13 +1,14 @@
 -- `betweenness::add_starts` meets its contract: the starts before this one have been added. Assumes nothing.
 use Prim.Native.Nat.{_-_}
 use native.Mathlib.Omega.{arith}
-use Rattle.betweenness.proofs.Adding.{Added, added-none, starts-pre, starts-more, starts-paths, starts-done}
+use Rattle.betweenness.proofs.Following.{added-none}
+use Rattle.betweenness.proofs.Adding.{AddedScores, starts-pre, starts-more, starts-paths, starts-done}
 use borrow.Author.Needs.{needs}
 use Rattle.betweenness.proofs.add_starts.Statement.{statement}
 use Rattle.betweenness.proofs.add_starts.Tie as tie
 
 abbrev Inv-loop : tie.InvT-loop
-Inv-loop nodes edges w32₀ w64₀ wf₀ start₀ w32 w64 wf start = Added nodes edges w32₀ w64₀ wf₀ start w32 w64 wf
+Inv-loop nodes edges w32₀ w64₀ wf₀ start₀ w32 w64 wf start = AddedScores nodes edges w32₀ w64₀ wf₀ start w32 w64 wf
 
 abbrev μ-loop : tie.MeasureT-loop
 μ-loop nodes edges w32₀ w64₀ wf₀ start₀ w32 w64 wf start = nodes - start
