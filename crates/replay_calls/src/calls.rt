@@ -32,17 +32,10 @@ pub fn make(
     match record::word(words, 0, 0) {
         0..=2 => degrees(words, from, to, weight, rf),
         3 => survey(words, own, from, to, weight, r32, r64, w32, w64, wf),
+        5 => edges(words, own, from, to, weight, rf, rb, w32, w64, wf),
         8 => voterank(words, own, from, to, weight, r32, w32, w64, wf),
         10..=13 => iterated(words, own, from, to, weight, vector, rf, w32, w64, wf),
         _ => scored(words, own, from, to, weight, rf, w32, w64, wf),
-    }
-}
-
-// Whether a call is there.
-pub fn is_made(call: usize) -> bool {
-    match call {
-        0..=4 | 6..=13 => true,
-        _ => false,
     }
 }
 
@@ -88,6 +81,36 @@ fn survey(
         start,
         distances,
         counts,
+        w32,
+        w64,
+        wf,
+    ))
+}
+
+fn edges(
+    words: &[u64],
+    own: usize,
+    from: &[u32],
+    to: &[u32],
+    weight: &[f64],
+    forward: &mut [f64],
+    back: &mut [f64],
+    w32: &mut [u32],
+    w64: &mut [u64],
+    wf: &mut [f64],
+) -> Said {
+    let n = nodes(words);
+    let directed = is_directed(words);
+    let normalized = record::word(words, own, 0) != 0;
+    plain(betweenness::edge_betweenness(
+        n,
+        directed,
+        from,
+        to,
+        weight,
+        normalized,
+        forward,
+        back,
         w32,
         w64,
         wf,

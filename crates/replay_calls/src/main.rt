@@ -76,9 +76,6 @@ fn count(line: &[u8], seen: &mut [u64; CALLS], differ: &mut [u64; CALLS]) {
         records::print(b"a call that is none\n");
         return;
     }
-    if !calls::is_made(call) {
-        return;
-    }
     seen[call] = std::num::wrapping_add_u64(seen[call], 1);
     if lend::differs(words) {
         differ[call] = std::num::wrapping_add_u64(differ[call], 1);

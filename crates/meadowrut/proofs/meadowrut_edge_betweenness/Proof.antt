@@ -1,0 +1,42 @@
+-- `meadowrut::meadowrut_edge_betweenness` meets its contract, from those of the call and of the number. Assumes nothing.
+use Rattle.graph.proofs.Left.{in-numbers}
+use borrow.Author.Needs.{needs}
+use Rattle.meadowrut.proofs.meadowrut_edge_betweenness.Statement.{statement}
+use Rattle.meadowrut.proofs.meadowrut_edge_betweenness.Tie as tie
+
+edge-betweenness-requires : tie.Need-edge-betweenness-requires
+edge-betweenness-requires c κs = search needs
+
+plain-number-requires : tie.Need-plain-number-requires
+plain-number-requires c κs = search needs
+
+same-length : tie.Need-same-length
+same-length c = search needs
+
+same-length-2 : tie.Need-same-length-2
+same-length-2 c = search needs
+
+same-length-3 : tie.Need-same-length-3
+same-length-3 c = search needs
+
+same-length-4 : tie.Need-same-length-4
+same-length-4 c = search needs
+
+same-length-5 : tie.Need-same-length-5
+same-length-5 c = search needs
+
+returns : tie.Need-returns
+returns c = in-numbers (c .plain-number .ensures) (c .before .before .before .before .before .before .before .before .before .before .before .edge-betweenness .ensures)
+
+pub meadowrut-edge-betweenness-spec : {M : Type 1} → statement M
+meadowrut-edge-betweenness-spec =
+    tie.close
+    (tie.spec
+    edge-betweenness-requires
+    plain-number-requires
+    same-length
+    same-length-2
+    same-length-3
+    same-length-4
+    same-length-5
+    returns)
