@@ -9,6 +9,7 @@ mod lend;
 mod library;
 mod limits;
 mod list;
+mod refusals;
 mod sample;
 
 use case::{Case, Lists, CALLS};
