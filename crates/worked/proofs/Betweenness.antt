@@ -75,3 +75,21 @@ p4-edges = record { raw = refl }
 two-nodes : betweennessOutcome true pair ≡ left (done tt) (replicate 2 zeroF) (replicate 32 0) (replicate 4 0) (replicate 16 zeroF)
 unfolding betweennessOutcome betweennessScores someExceeds scoresAfter fromStart scaled leave passed entered copies levels entriesOf holds exceeds exceedsBelow dist count seek walks sumOver same neighbours newestFirst edgesFrom firstRefusal firstOf sizeWrong nodeWrong firstFault workWrong over cleared listOf ofBits ofInt add mul div
 two-nodes = refl
+
+-- undirected 0-1, the same edge listed the other way round, a self-loop at 1, and 1-2
+abbrev looped : Given EdgeScores
+looped = given 3 false (0 ∷ 1 ∷ 1 ∷ 1 ∷ []) (1 ∷ 0 ∷ 1 ∷ 2 ∷ []) (replicate 4 nan) (edgeScores (replicate 5 nan) (replicate 5 nan)) (replicate 65 7) (replicate 7 7) (replicate 35 nan)
+
+-- reversed and repeated edges share their totals, and a self-loop's slots are +0.0
+shared : edgeBetweennessOutcome false looped
+    ≡ left (done tt) (edgeScores (two ∷ two ∷ zeroF ∷ two ∷ nan ∷ []) (two ∷ two ∷ zeroF ∷ two ∷ nan ∷ [])) (replicate 64 0 ++ (7 ∷ [])) (replicate 6 0 ++ (7 ∷ [])) (replicate 34 zeroF ++ (nan ∷ []))
+unfolding edgeBetweennessOutcome forwardScores backScores scaledTotal totalsAfter totalsFrom leaveBy someExceeds passed entered copies levels entriesOf holds exceeds exceedsBelow dist count seek walks sumOver same neighbours newestFirst edgesFrom firstRefusal firstOf sizeWrong nodeWrong firstFault workWrong over cleared listOf ofBits ofInt add mul div
+shared = refl
+
+-- normalized, two nodes: 2/(2*1) is 1, and nothing is halved
+abbrev one-edge : Given EdgeScores
+one-edge = given 2 false (0 ∷ []) (1 ∷ []) (nan ∷ []) (edgeScores (nan ∷ []) (nan ∷ [])) (replicate 32 7) (replicate 4 7) (replicate 16 nan)
+
+normalized-edge : edgeBetweennessOutcome true one-edge ≡ left (done tt) (edgeScores (one ∷ []) (one ∷ [])) (replicate 32 0) (replicate 4 0) (replicate 16 zeroF)
+unfolding edgeBetweennessOutcome forwardScores backScores scaledTotal totalsAfter totalsFrom leaveBy someExceeds passed entered copies levels entriesOf holds exceeds exceedsBelow dist count seek walks sumOver same neighbours newestFirst edgesFrom firstRefusal firstOf sizeWrong nodeWrong firstFault workWrong over cleared listOf ofBits ofInt add mul div
+normalized-edge = refl
