@@ -4,13 +4,6 @@ pub mod Adding
 pub mod Indexing
 pub mod Preparing
 pub mod Scaling
-pub mod Factors
-pub mod Results
 pub mod Wiping
 pub mod Ending
-pub mod EdgesEnding
 pub mod Unique
-pub mod Numbering
-pub mod Crossing
-pub mod Pairing
-pub mod Totalling

@@ -1,5 +1,5 @@
--- No second outcome meets the contract of `betweenness`, nor that of `edge_betweenness`. Assumes nothing.
-use mathlib.Core.Path.{_≡_, ap}
+-- No second outcome meets the contract of `betweenness`. Assumes nothing.
+use mathlib.Core.Path.{_≡_}
 use mathlib.Core.Bool.{Bool}
 use mathlib.Core.List.{List}
 use Prim.Native.Nat.{ℕ}
@@ -9,16 +9,7 @@ use Rattle.graph.specs.Given.{Given}
 use Rattle.graph.specs.Left.{left}
 use Rattle.graph.proofs.Left.{no-second}
 use Rattle.betweenness.specs.Betweenness.{betweennessOutcome}
-use Rattle.betweenness.specs.Edges.{EdgeScores, edgeScores, edgeBetweennessOutcome}
 
 pub betweenness-unique : (normalized : Bool) (g : Given (List Float)) {a a′ : Said (Unit {0})} {s s′ : List Float} {x x′ y y′ : List ℕ} {z z′ : List Float}
     → left a s x y z ≡ betweennessOutcome normalized g → left a′ s′ x′ y′ z′ ≡ betweennessOutcome normalized g → (a ≡ a′) × (s ≡ s′) × (x ≡ x′) × (y ≡ y′) × (z ≡ z′)
 betweenness-unique normalized g p q = no-second p q
-
--- forward and back alike
-pub edge-betweenness-unique : (normalized : Bool) (g : Given EdgeScores) {a a′ : Said (Unit {0})} {f f′ b b′ : List Float} {x x′ y y′ : List ℕ} {z z′ : List Float}
-    → left a (edgeScores f b) x y z ≡ edgeBetweennessOutcome normalized g → left a′ (edgeScores f′ b′) x′ y′ z′ ≡ edgeBetweennessOutcome normalized g
-    → (a ≡ a′) × (f ≡ f′) × (b ≡ b′) × (x ≡ x′) × (y ≡ y′) × (z ≡ z′)
-edge-betweenness-unique normalized g p q =
-    let e = no-second p q in
-    (e .0, ap (λ (s : EdgeScores). s .forward) (e .1), ap (λ (s : EdgeScores). s .back) (e .1), e .2, e .3, e .4)

@@ -1,4 +1,2 @@
 pub mod Betweenness
 pub mod Starts
-pub mod Edges
-pub mod Crossings

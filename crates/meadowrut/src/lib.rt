@@ -13,7 +13,7 @@ ghost use Rattle.graph.specs.Left.{left, inNumbers};
 ghost use Rattle.degree.specs.Degree.{degreeOutcome, inDegreeOutcome, outDegreeOutcome};
 ghost use Rattle.survey.specs.Survey.{results, surveyOutcome};
 ghost use Rattle.betweenness.specs.Betweenness.{betweennessOutcome};
-ghost use Rattle.betweenness.specs.Edges.{edgeScores, edgeBetweennessOutcome};
+ghost use Rattle.edge_betweenness.specs.Edges.{edgeScores, edgeBetweennessOutcome};
 ghost use Rattle.reaching.specs.Reaching.{reachingOutcome, globalOutcome};
 ghost use Rattle.laplacian.specs.Laplacian.{laplacianOutcome};
 ghost use Rattle.voterank.specs.VoteRank.{voterankOutcome};
@@ -211,7 +211,7 @@ pub extern "C" fn meadowrut_edge_betweenness(
 ) -> u32
     ensures { λ r. ⌜ left r (edgeScores (now (forward .exit)) (now (back .exit))) (now (w32 .exit)) (now (w64 .exit)) (now (wf .exit)) ≡ inNumbers (edgeBetweennessOutcome (raised normalized) (given nodes (raised directed) (now (from .entry)) (now (to .entry)) (now (weight .entry)) (edgeScores (now (forward .entry)) (now (back .entry))) (now (w32 .entry)) (now (w64 .entry)) (now (wf .entry)))) ⌝ }
 {
-    graph::plain_number(betweenness::edge_betweenness(
+    graph::plain_number(edge_betweenness::edge_betweenness(
         nodes,
         directed != 0,
         from,

@@ -102,7 +102,7 @@ fn edges(
     let n = nodes(words);
     let directed = is_directed(words);
     let normalized = record::word(words, own, 0) != 0;
-    plain(betweenness::edge_betweenness(
+    plain(edge_betweenness::edge_betweenness(
         n,
         directed,
         from,

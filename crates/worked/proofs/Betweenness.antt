@@ -17,7 +17,7 @@ use Rattle.brandes.specs.Order.{holds, entriesOf, levels, copies, entered}
 use Rattle.brandes.specs.Shares.{passed, leave}
 use Rattle.betweenness.specs.Betweenness.{fromStart, scoresAfter, scaled, betweennessScores, someExceeds, betweennessOutcome}
 use Rattle.pairs.specs.Totals.{leaveBy}
-use Rattle.betweenness.specs.Edges.{EdgeScores, edgeScores, totalsFrom, totalsAfter, scaledTotal, forwardScores, backScores, two, edgeBetweennessOutcome}
+use Rattle.edge_betweenness.specs.Edges.{EdgeScores, edgeScores, totalsFrom, totalsAfter, scaledTotal, forwardScores, backScores, two, edgeBetweennessOutcome}
 
 -- 1.0 and 0.5
 abbrev one : Float

@@ -19,14 +19,14 @@ use Rattle.brandes.specs.Tracks.{Traced}
 use Rattle.pairs.specs.Numbers.{numberIn}
 use Rattle.pairs.specs.Pairs.{HeldPairs, EndedPairs, SearchPairsPre, SearchPairsPost}
 use Rattle.pairs.specs.Crossings.{leftAcross, AcrossPre}
 use Rattle.betweenness.specs.Betweenness.{someExceeds}
-use Rattle.betweenness.specs.Edges.{totalsFrom, totalsAfter}
 use Rattle.betweenness.specs.Starts.{StartPre}
-use Rattle.betweenness.specs.Crossings.{StillPairs, TotalsHeld, CrossPre, CrossPost, CrossAllPre, CrossAllPost}
 use Rattle.betweenness.proofs.Starting.{not-many, release-pre, within-next}
 use Rattle.betweenness.proofs.Following.{within-then, Adds, Added, added-more, added-paths}
 use Rattle.betweenness.proofs.Adding.{search-pre, start-paths, traced, start-forget}
-use Rattle.betweenness.proofs.Crossing.{paired, pairs-next, totals-next, across-asks, total-front, total-kept, totalled}
+use Rattle.edge_betweenness.specs.Edges.{totalsFrom, totalsAfter}
+use Rattle.edge_betweenness.specs.Crossings.{StillPairs, TotalsHeld, CrossPre, CrossPost, CrossAllPre, CrossAllPost}
+use Rattle.edge_betweenness.proofs.Crossing.{paired, pairs-next, totals-next, across-asks, total-front, total-kept, totalled}
 
 -- a start with pairs is a start
 plain : {n m s : ℕ} {w c : List ℕ} {f : List Float} → CrossPre n m s w c f → StartPre n m s w c f

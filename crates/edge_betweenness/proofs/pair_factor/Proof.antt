@@ -1,10 +1,10 @@
--- `betweenness::pair_factor` meets its contract, directed and undirected. Assumes nothing.
+-- `edge_betweenness::pair_factor` meets its contract, directed and undirected. Assumes nothing.
 use mathlib.Core.Bool.{true, false}
 use lib.Ieee.{ofBits}
-use Rattle.betweenness.proofs.Factors.{below-pairs, factor-is}
+use Rattle.edge_betweenness.proofs.Factors.{below-pairs, factor-is}
 use borrow.Author.Needs.{needs}
-use Rattle.betweenness.proofs.pair_factor.Statement.{statement}
-use Rattle.betweenness.proofs.pair_factor.Tie as tie
+use Rattle.edge_betweenness.proofs.pair_factor.Statement.{statement}
+use Rattle.edge_betweenness.proofs.pair_factor.Tie as tie
 
 sub-nearest-u64-to-f64 : tie.Need-sub-nearest-u64-to-f64
 sub-nearest-u64-to-f64 c = search needs

@@ -1,9 +1,9 @@
--- `betweenness::write_edges` meets its contract: what each step asks, and the results directed and undirected. Assumes nothing.
+-- `edge_betweenness::write_edges` meets its contract: what each step asks, and the results directed and undirected. Assumes nothing.
 use native.Mathlib.Omega.{arith}
-use Rattle.betweenness.proofs.Results.{scale-asks, cursors-ask, forward-asks, written-directed, back-asks, written-both}
+use Rattle.edge_betweenness.proofs.Results.{scale-asks, cursors-ask, forward-asks, written-directed, back-asks, written-both}
 use borrow.Author.Needs.{needs}
-use Rattle.betweenness.proofs.write_edges.Statement.{statement}
-use Rattle.betweenness.proofs.write_edges.Tie as tie
+use Rattle.edge_betweenness.proofs.write_edges.Statement.{statement}
+use Rattle.edge_betweenness.proofs.write_edges.Tie as tie
 
 add-beside : tie.Need-add-beside
 add-beside c = omega (arith, c .before .before .before .before .before .before .pre .narrow, c .before .before .before .before .before .before .pre .sound .limits .nodes, c .before .before .before .before .before .before .pre .sound .limits .edges)

@@ -10,7 +10,7 @@ use Rattle.graph.specs.Layout.{besideAt, distancesAt, totalsAt}
 use Rattle.hops.specs.Search.{RowsOf}
 use Rattle.pairs.specs.Numbers.{firstAt, numberIn, Numbered}
 use Rattle.pairs.proofs.Numbers.{row-before, number-below}
-use Rattle.betweenness.specs.Crossings.{TotalsHeld}
+use Rattle.edge_betweenness.specs.Crossings.{TotalsHeld}
 
 module _ {g : Graph} (m : ℕ) {w : List ℕ} {top : ℕ} (R : RowsOf g w top) (most : getD w (g .nodes) 0 ≤ 2 * m) where
   -- the rows end before the numbers beside them

@@ -20,10 +20,10 @@ use Rattle.pairs.specs.Pairs.{Paired, HeldPairs}
 use Rattle.pairs.specs.Crossings.{leftAcross, AcrossPre}
 use Rattle.pairs.proofs.Numbers.{rows-rise, number-injective}
 use Rattle.pairs.proofs.Across.{across-pre, total-is, crossed-delta, crossed-frame}
-use Rattle.betweenness.specs.Edges.{totalsFrom}
-use Rattle.betweenness.specs.Crossings.{StillPairs, TotalsHeld}
 use Rattle.betweenness.proofs.Starting.{low-next, release-pre, still-next}
-use Rattle.betweenness.proofs.Numbering.{number-low, numbered-after, totals-after}
+use Rattle.edge_betweenness.specs.Edges.{totalsFrom}
+use Rattle.edge_betweenness.specs.Crossings.{StillPairs, TotalsHeld}
+use Rattle.edge_betweenness.proofs.Numbering.{number-low, numbered-after, totals-after}
 
 module _ {g : Graph} {m s : ℕ} {w c : List ℕ} {f : List Float} (S : StillPairs g m w c f) (h : s < g .nodes) where
   rows : RowsOf g w (distancesAt (g .nodes) m)

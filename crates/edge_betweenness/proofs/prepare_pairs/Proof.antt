@@ -1,9 +1,9 @@
--- `betweenness::prepare_pairs` meets its contract: the rows and all that the starts need, then the pairs' numbers and totals. Assumes nothing.
+-- `edge_betweenness::prepare_pairs` meets its contract: the rows and all that the starts need, then the pairs' numbers and totals. Assumes nothing.
 use native.Mathlib.Omega.{arith}
 use lib.Ieee.{ofBits}
-use Rattle.betweenness.proofs.Pairing.{number-pre, totals-room, prepared-pairs}
-use Rattle.betweenness.proofs.prepare_pairs.Statement.{statement}
-use Rattle.betweenness.proofs.prepare_pairs.Tie as tie
+use Rattle.edge_betweenness.proofs.Pairing.{number-pre, totals-room, prepared-pairs}
+use Rattle.edge_betweenness.proofs.prepare_pairs.Statement.{statement}
+use Rattle.edge_betweenness.proofs.prepare_pairs.Tie as tie
 
 add-beside : tie.Need-add-beside
 add-beside c = omega (arith, c .before .before .before .before .before .before .pre .sound .limits)

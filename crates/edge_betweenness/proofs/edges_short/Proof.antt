@@ -1,10 +1,10 @@
--- `betweenness::edges_short` meets its contract. Assumes nothing.
+-- `edge_betweenness::edges_short` meets its contract. Assumes nothing.
 use mathlib.Core.Path.{sym, ap, _∙_}
 use mathlib.Core.Bool.{Bool, not, _&&_, _||_}
 use lib.Dec.{ltb}
 use borrow.Author.Tests.{lt-ltb, le-ltb}
-use Rattle.betweenness.proofs.edges_short.Statement.{statement}
-use Rattle.betweenness.proofs.edges_short.Tie as tie
+use Rattle.edge_betweenness.proofs.edges_short.Statement.{statement}
+use Rattle.edge_betweenness.proofs.edges_short.Tie as tie
 
 returns : tie.Need-returns
 returns c =

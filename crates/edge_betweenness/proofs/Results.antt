@@ -28,9 +28,9 @@ use Rattle.pairs.specs.Numbers.{numberIn}
 use Rattle.pairs.specs.Writes.{among, placeOf, totalOf, WalkPre, Walked, ForwardPost, backOf, BackPost}
 use Rattle.pairs.proofs.Numbers.{rows-rise}
 use Rattle.pairs.proofs.Cursors.{Stands, among-long, forward-entry, back-entry}
-use Rattle.betweenness.specs.Edges.{scaledTotal}
-use Rattle.betweenness.specs.Crossings.{TotalsHeld, RowsNumbered, EdgesPre, EdgesPost, ScalePre, TotalsScaled}
-use Rattle.betweenness.proofs.Numbering.{number-low}
+use Rattle.edge_betweenness.specs.Edges.{scaledTotal}
+use Rattle.edge_betweenness.specs.Crossings.{TotalsHeld, RowsNumbered, EdgesPre, EdgesPost, ScalePre, TotalsScaled}
+use Rattle.edge_betweenness.proofs.Numbering.{number-low}
 
 -- place is that of an entry x of v, where the rows of g stand in w
 record EntryAt (g : Graph) (w : List ℕ) (v x place : ℕ) : Type 0 where

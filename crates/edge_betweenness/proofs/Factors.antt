@@ -12,8 +12,8 @@ use lib.Ieee.{Float, nan, binary64, mul, div}
 use Rattle.regions.proofs.Frames.{frame-none, frame-set, frame-wide, store-more}
 use Rattle.graph.specs.Layout.{totalsAt}
 use Rattle.brandes.specs.Shares.{one, double}
-use Rattle.betweenness.specs.Edges.{two, scaledTotal}
-use Rattle.betweenness.specs.Crossings.{Multiplied, TotalsScaled}
+use Rattle.edge_betweenness.specs.Edges.{two, scaledTotal}
+use Rattle.edge_betweenness.specs.Crossings.{Multiplied, TotalsScaled}
 
 -- ---- one float after the other
 pub multiplied-none : (f : List Float) (base : ℕ) (factor : Float) → Multiplied f base 0 factor f

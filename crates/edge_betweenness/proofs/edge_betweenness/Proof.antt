@@ -1,12 +1,12 @@
--- `betweenness::edge_betweenness` meets its contract: a refusal by its test, PATHS and the results by what the steps leave. Assumes nothing.
+-- `edge_betweenness::edge_betweenness` meets its contract: a refusal by its test, PATHS and the results by what the steps leave. Assumes nothing.
 use native.Mathlib.Omega.{arith}
 use Rattle.graph.specs.Given.{Given, given}
 use Rattle.graph.specs.Pres.{Passed}
-use Rattle.betweenness.specs.Edges.{EdgeScores, edgeScores}
-use Rattle.betweenness.proofs.EdgesEnding.{edgeTests, refused-edges, passed-edges, ready, prepare-pre, starts-asks, wipe-pre, ended-paths, write-asks, wipe-after, ended-done}
+use Rattle.edge_betweenness.specs.Edges.{EdgeScores, edgeScores}
+use Rattle.edge_betweenness.proofs.EdgesEnding.{edgeTests, refused-edges, passed-edges, ready, prepare-pre, starts-asks, wipe-pre, ended-paths, write-asks, wipe-after, ended-done}
 use borrow.Author.Needs.{needs}
-use Rattle.betweenness.proofs.edge_betweenness.Statement.{statement}
-use Rattle.betweenness.proofs.edge_betweenness.Tie as tie
+use Rattle.edge_betweenness.proofs.edge_betweenness.Statement.{statement}
+use Rattle.edge_betweenness.proofs.edge_betweenness.Tie as tie
 
 -- what the call is given
 abbrev here : tie.Start → Given EdgeScores

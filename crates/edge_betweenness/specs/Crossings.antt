@@ -14,9 +14,9 @@ use Rattle.graph.specs.Layout.{besideAt, distancesAt, totalsAt}
 use Rattle.hops.specs.Hops.{exceeds, pathLimit}
 use Rattle.hops.specs.Search.{graphOf, RowsOf}
 use Rattle.pairs.specs.Numbers.{numberIn, Numbered}
 use Rattle.betweenness.specs.Betweenness.{someExceeds}
-use Rattle.betweenness.specs.Edges.{totalsFrom, totalsAfter, scaledTotal}
 use Rattle.betweenness.specs.Starts.{Within, Still}
+use Rattle.edge_betweenness.specs.Edges.{totalsFrom, totalsAfter, scaledTotal}
 
 -- the workspace between two starts, with the number of each row entry's pair beside it and room for the totals
 pub record StillPairs (g : Graph) (m : ℕ) (w c : List ℕ) (f : List Float) : Type 0 where

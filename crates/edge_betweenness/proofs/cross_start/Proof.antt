@@ -1,9 +1,9 @@
--- `betweenness::cross_start` meets its contract: search with pairs, accumulation and taking back, one after the other. Assumes nothing.
+-- `edge_betweenness::cross_start` meets its contract: search with pairs, accumulation and taking back, one after the other. Assumes nothing.
 use native.Mathlib.Omega.{arith}
-use Rattle.betweenness.proofs.Totalling.{cross-search, cross-paths, cross-accumulate, cross-forget, cross-release, cross-done}
+use Rattle.edge_betweenness.proofs.Totalling.{cross-search, cross-paths, cross-accumulate, cross-forget, cross-release, cross-done}
 use borrow.Author.Needs.{needs}
-use Rattle.betweenness.proofs.cross_start.Statement.{statement}
-use Rattle.betweenness.proofs.cross_start.Tie as tie
+use Rattle.edge_betweenness.proofs.cross_start.Statement.{statement}
+use Rattle.edge_betweenness.proofs.cross_start.Tie as tie
 
 add-beside : tie.Need-add-beside
 add-beside c = omega (arith, c .before .before .before .pre .limits)

@@ -1,13 +1,13 @@
--- `betweenness::scale_totals` meets its contract, case by case. Assumes nothing.
+-- `edge_betweenness::scale_totals` meets its contract, case by case. Assumes nothing.
 use mathlib.Core.Path.{ap, _∙_}
 use mathlib.Core.Bool.{Bool, _&&_}
 use lib.Dec.{ltb}
 use borrow.Author.Tests.{le-ltb}
 use native.Mathlib.Omega.{arith}
-use Rattle.betweenness.proofs.Factors.{scaled-by, not-scaled}
+use Rattle.edge_betweenness.proofs.Factors.{scaled-by, not-scaled}
 use borrow.Author.Needs.{needs}
-use Rattle.betweenness.proofs.scale_totals.Statement.{statement}
-use Rattle.betweenness.proofs.scale_totals.Tie as tie
+use Rattle.edge_betweenness.proofs.scale_totals.Statement.{statement}
+use Rattle.edge_betweenness.proofs.scale_totals.Tie as tie
 
 mul-multiply : tie.Need-mul-multiply
 mul-multiply c = search needs

@@ -22,12 +22,12 @@ use Rattle.graph.proofs.Checks.{or-left, or-right}
 use Rattle.graph.proofs.Refusals.{passed, plainTests, plain-ready, plain-fits}
 use Rattle.graph.proofs.Left.{refused}
 use Rattle.hops.specs.Hops.{pathLimit}
 use Rattle.betweenness.specs.Betweenness.{someExceeds}
-use Rattle.betweenness.specs.Edges.{totalsAfter, forwardScores, backScores, EdgeScores, edgeScores, scoresShort, edgeResults, edgeBetweennessOutcome}
 use Rattle.betweenness.specs.Starts.{Within, PreparePre}
-use Rattle.betweenness.specs.Crossings.{StillPairs, TotalsHeld, RowsNumbered, CrossAllPre, CrossAllPost, PreparedPairs, EdgesPre, EdgesPost}
 use Rattle.betweenness.proofs.Following.{within-then}
 use Rattle.betweenness.proofs.Wiping.{wipe-asks, ends-paths, ends-done}
+use Rattle.edge_betweenness.specs.Edges.{totalsAfter, forwardScores, backScores, EdgeScores, edgeScores, scoresShort, edgeResults, edgeBetweennessOutcome}
+use Rattle.edge_betweenness.specs.Crossings.{StillPairs, TotalsHeld, RowsNumbered, CrossAllPre, CrossAllPost, PreparedPairs, EdgesPre, EdgesPost}
 
 -- the rows of the table that can refuse
 abbrev pub edgeTests : Given EdgeScores → Tests

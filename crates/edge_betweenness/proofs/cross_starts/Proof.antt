@@ -1,11 +1,11 @@
--- `betweenness::cross_starts` meets its contract: the starts before this one have been added to the totals. Assumes nothing.
+-- `edge_betweenness::cross_starts` meets its contract: the starts before this one have been added to the totals. Assumes nothing.
 use Prim.Native.Nat.{_-_}
 use native.Mathlib.Omega.{arith}
 use Rattle.betweenness.proofs.Following.{added-none}
-use Rattle.betweenness.proofs.Totalling.{AddedTotals, all-pre, all-more, all-paths, all-done}
+use Rattle.edge_betweenness.proofs.Totalling.{AddedTotals, all-pre, all-more, all-paths, all-done}
 use borrow.Author.Needs.{needs}
-use Rattle.betweenness.proofs.cross_starts.Statement.{statement}
-use Rattle.betweenness.proofs.cross_starts.Tie as tie
+use Rattle.edge_betweenness.proofs.cross_starts.Statement.{statement}
+use Rattle.edge_betweenness.proofs.cross_starts.Tie as tie
 
 abbrev Inv-loop : tie.InvT-loop
 Inv-loop nodes edges w32₀ w64₀ wf₀ start₀ w32 w64 wf start = AddedTotals nodes edges w32₀ w64₀ wf₀ start w32 w64 wf

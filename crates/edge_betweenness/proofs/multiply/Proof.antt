@@ -1,12 +1,12 @@
--- `betweenness::multiply` meets its contract: after i turns the first i floats are multiplied. Assumes nothing.
+-- `edge_betweenness::multiply` meets its contract: after i turns the first i floats are multiplied. Assumes nothing.
 use mathlib.Core.Path.{_≡_, refl, subst}
 use Prim.Native.Nat.{ℕ, _-_, _≤_}
 use native.Mathlib.Omega.{arith}
-use Rattle.betweenness.specs.Crossings.{Multiplied}
-use Rattle.betweenness.proofs.Factors.{multiplied-none, multiplied-more}
+use Rattle.edge_betweenness.specs.Crossings.{Multiplied}
+use Rattle.edge_betweenness.proofs.Factors.{multiplied-none, multiplied-more}
 use borrow.Author.Needs.{needs}
-use Rattle.betweenness.proofs.multiply.Statement.{statement}
-use Rattle.betweenness.proofs.multiply.Tie as tie
+use Rattle.edge_betweenness.proofs.multiply.Statement.{statement}
+use Rattle.edge_betweenness.proofs.multiply.Tie as tie
 
 abbrev Inv-loop : tie.InvT-loop
 Inv-loop base len factor wf₀ i₀ wf i = (i ≤ len) × Multiplied wf₀ base i factor wf

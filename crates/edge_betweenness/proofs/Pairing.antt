@@ -16,11 +16,11 @@ use Rattle.hops.specs.Search.{graphOf, RowsOf, Space}
 use Rattle.hops.proofs.Search.{rows-after}
 use Rattle.brandes.proofs.Holding.{slots-after}
 use Rattle.pairs.specs.Numbers.{firstAt, NumberPre, NumberPost}
-use Rattle.betweenness.specs.Edges.{totalsAfter}
 use Rattle.betweenness.specs.Starts.{Still, PreparePre, Prepared}
-use Rattle.betweenness.specs.Crossings.{StillPairs, TotalsHeld, PreparedPairs}
 use Rattle.betweenness.proofs.Following.{within-then}
-use Rattle.betweenness.proofs.Numbering.{rows-low, number-low}
+use Rattle.edge_betweenness.specs.Edges.{totalsAfter}
+use Rattle.edge_betweenness.specs.Crossings.{StillPairs, TotalsHeld, PreparedPairs}
+use Rattle.edge_betweenness.proofs.Numbering.{rows-low, number-low}
 
 module _ {n : ℕ} {directed : Bool} {from to : List ℕ} {weight : List Float} {w c : List ℕ} {f : List Float} (P : PreparePre n from to weight w c f)
     {w1 c1 : List ℕ} {f1 : List Float} (A : Prepared n directed from to weight w c f w1 c1 f1) where
