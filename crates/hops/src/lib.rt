@@ -124,6 +124,10 @@ pub fn touch(
 {
     let v = x as usize;
     let old = w[distances + v];
+    // most entries lead back or aside: one test lets them go
+    if old < further {
+        return Step::Other;
+    }
     if old == UNREACHED {
         w[distances + v] = further;
         w[place] = x;

@@ -1,4 +1,4 @@
--- `hops::touch` meets its contract: a return for each of the four cases. Assumes nothing.
+-- `hops::touch` meets its contract: a return for each case. Assumes nothing.
 use native.Mathlib.Omega.{arith}
 use lib.ListN.{length-set}
 use borrow.Author.Needs.{needs}
@@ -14,6 +14,9 @@ mul-old c = search needs
 slice-read-old : tie.Need-slice-read-old
 slice-read-old c = search needs
 
+returns : tie.Need-returns
+returns c = search needs
+
 add-w : tie.Need-add-w
 add-w c = search needs
 
@@ -24,10 +27,10 @@ slice-write-w : tie.Need-slice-write-w
 slice-write-w c = search needs
 
 mul-w-2 : tie.Need-mul-w-2
-mul-w-2 c = omega (arith, c .before .before .pre .slot (c .if1 .taken))
+mul-w-2 c = omega (arith, c .before .before .before .pre .slot (c .if2 .taken))
 
 slice-write-w-2 : tie.Need-slice-write-w-2
-slice-write-w-2 c = simp length-set (omega (arith, c .before .before .pre .slot (c .if1 .taken)))
+slice-write-w-2 c = simp length-set (omega (arith, c .before .before .before .pre .slot (c .if2 .taken)))
 
 mul-counts : tie.Need-mul-counts
 mul-counts c = search needs
@@ -41,11 +44,11 @@ same-length c = search needs
 same-length-2 : tie.Need-same-length-2
 same-length-2 c = search needs
 
-returns : tie.Need-returns
-returns c = search needs
-
 returns-2 : tie.Need-returns-2
 returns-2 c = search needs
+
+returns-3 : tie.Need-returns-3
+returns-3 c = search needs
 
 mul-before : tie.Need-mul-before
 mul-before c = search needs
@@ -53,11 +56,11 @@ mul-before c = search needs
 slice-read-before : tie.Need-slice-read-before
 slice-read-before c = search needs
 
-sub-if3 : tie.Need-sub-if3
-sub-if3 c = search needs
+sub-if4 : tie.Need-sub-if4
+sub-if4 c = search needs
 
-returns-3 : tie.Need-returns-3
-returns-3 c = search needs
+returns-4 : tie.Need-returns-4
+returns-4 c = search needs
 
 add-counts : tie.Need-add-counts
 add-counts c = search needs
@@ -71,8 +74,8 @@ slice-write-counts-2 c = search needs
 same-length-3 : tie.Need-same-length-3
 same-length-3 c = search needs
 
-returns-4 : tie.Need-returns-4
-returns-4 c = search needs
+returns-5 : tie.Need-returns-5
+returns-5 c = search needs
 
 pub touch-spec : {M : Type 1} → statement M
 touch-spec =
@@ -81,6 +84,7 @@ touch-spec =
     add-old
     mul-old
     slice-read-old
+    returns
     add-w
     mul-w
     slice-write-w
@@ -90,14 +94,14 @@ touch-spec =
     slice-write-counts
     same-length
     same-length-2
-    returns
     returns-2
+    returns-3
     mul-before
     slice-read-before
-    sub-if3
-    returns-3
+    sub-if4
+    returns-4
     add-counts
     mul-counts-2
     slice-write-counts-2
     same-length-3
-    returns-4)
+    returns-5)
