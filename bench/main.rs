@@ -286,6 +286,26 @@ fn shown(seconds: f64) -> String {
     }
 }
 
+/// What no degree of these edges goes below here: the best times of one store at each end, and of one addition there,
+/// with no check, no clearing and nothing else around them.
+fn floor(l: &Lists) -> (f64, f64) {
+    let mut scores = vec![0.0; l.nodes];
+    let ends = || l.from.iter().zip(&l.to).map(|(f, t)| (*f as usize, *t as usize));
+    // SAFETY: every end of a graph of this bench is one of its nodes
+    let stores = |scores: &mut [f64]| ends().for_each(|(f, t)| unsafe {
+        *scores.get_unchecked_mut(f) = 1.0;
+        *scores.get_unchecked_mut(t) = 1.0;
+    });
+    let additions = |scores: &mut [f64]| ends().for_each(|(f, t)| unsafe {
+        *scores.get_unchecked_mut(f) += 1.0;
+        *scores.get_unchecked_mut(t) += 1.0;
+    });
+    let mut best = |pass: &dyn Fn(&mut [f64])| {
+        (0..50).map(|_| timed(|| (0..50).for_each(|_| pass(black_box(&mut scores)))).0.as_secs_f64() / 50.0).fold(f64::MAX, f64::min)
+    };
+    (best(&stores), best(&additions))
+}
+
 fn table(names: &[&str], calls: &[&str], budget: Duration) -> bool {
     let mut good = true;
     for name in names {
@@ -326,6 +346,10 @@ fn table(names: &[&str], calls: &[&str], budget: Duration) -> bool {
             let (ratio, with_building) = (b / a, (b + building) / a);
             let (a, b) = (shown(a), shown(b));
             println!("| {word} | {a} | {b} | {ratio:.2} | {bar} | {with_building:.2} | {their_time} | {their_ratio} | {rounds} | {same} |");
+        }
+        if l.m() == 32768 && (calls.is_empty() || calls.contains(&"degree")) {
+            let (stores, additions) = floor(&l);
+            println!("\nDegree's floor: one store at each end of each edge takes {}, one addition there {}, with nothing around them.", shown(stores), shown(additions));
         }
     }
     good
