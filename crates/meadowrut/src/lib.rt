@@ -18,7 +18,7 @@ ghost use Rattle.reaching.specs.Reaching.{reachingOutcome, globalOutcome};
 ghost use Rattle.laplacian.specs.Laplacian.{laplacianOutcome};
 ghost use Rattle.voterank.specs.VoteRank.{voterankOutcome};
 ghost use Rattle.pagerank.specs.PageRank.{pagerankOutcome};
-ghost use Rattle.pagerank.specs.Personalized.{personalizedOutcome};
+ghost use Rattle.personalized_pagerank.specs.Personalized.{personalizedOutcome};
 ghost use Rattle.eigenvector.specs.Eigenvector.{eigenOutcome};
 ghost use Rattle.katz.specs.Katz.{katzOutcome};
 ghost use Rattle.job.specs.Run.{saidRan, runOutcome};
@@ -392,7 +392,7 @@ pub extern "C" fn meadowrut_personalized_pagerank(
     ensures { λ r. ⌜ left r (now (scores .exit)) (now (w32 .exit)) (now (w64 .exit)) (now (wf .exit)) ≡ voiced reported (personalizedOutcome (asked settings) (raised given) (now (personalization .entry)) (lent nodes (raised directed) (now (from .entry)) (now (to .entry)) (now (weight .entry)) (now (scores .entry)) (now (w32 .entry)) (now (w64 .entry)) (now (wf .entry)))) ⌝ }
 {
     let asked = settings_of(settings);
-    let ended = pagerank::personalized_pagerank(
+    let ended = personalized_pagerank::personalized_pagerank(
         nodes,
         directed != 0,
         from,

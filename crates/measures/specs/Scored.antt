@@ -21,7 +21,7 @@ use Rattle.eigenvector.specs.Eigenvector.{eigenOutcome}
 use Rattle.reaching.specs.Reaching.{reachingOutcome}
 use Rattle.pagerank.specs.PageRank.{pagerankOutcome}
 use Rattle.betweenness.specs.Betweenness.{betweennessOutcome}
-use Rattle.pagerank.specs.Personalized.{personalizedOutcome}
+use Rattle.personalized_pagerank.specs.Personalized.{personalizedOutcome}
 use Rattle.degree.specs.Degree.{degreeOutcome}
 use Rattle.laplacian.specs.Laplacian.{laplacianOutcome}
 use Rattle.voterank.specs.VoteRank.{voterankOutcome}

@@ -158,7 +158,7 @@ pub fn score_personalized(
 {
     let nodes = top.nodes as usize;
     let settings = settings_of(top);
-    let said = pagerank::personalized_pagerank(
+    let said = personalized_pagerank::personalized_pagerank(
         nodes,
         top.directed,
         from,

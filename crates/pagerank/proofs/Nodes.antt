@@ -1,28 +1,21 @@
--- The rounds of `pagerank`: what a node does, a round as it is defined, and one round after another. Assumes nothing.
+-- The rounds of `pagerank`: what a node does and adds to the dangling sum, and a round as it is defined. Assumes nothing.
 use mathlib.Core.Path.{_≡_, refl, sym, ap, _∙_}
-use mathlib.Core.Bool.{Bool, true, false, cond}
-use mathlib.Core.List.{List, [], foldl}
-use Prim.Native.Nat.{ℕ, _+_, _*_, _-_, _≤_, _<_}
-use native.Mathlib.Nat.{sub-zero}
+use mathlib.Core.Bool.{true, false}
+use mathlib.Core.List.{List, foldl}
+use Prim.Native.Nat.{ℕ, _+_, _*_, _≤_, _<_}
 use native.Mathlib.Omega.{arith}
-use borrow.Author.Tests.{eq-eqb, ne-eqb}
-use lib.Dec.{eqb}
 use lib.ListN.{length, getD}
-use lib.Ieee.{Float, nan, binary64, add, sub, mul, div, lt}
+use lib.Ieee.{Float, nan, binary64, add, sub, mul, div, lt, eq}
 use Rattle.regions.specs.Region.{zeroF, listOf, Front, Filled}
-use Rattle.regions.proofs.Fronts.{front-none, front-then}
 use Rattle.regions.proofs.Frames.{frame-front, frame-part, filled-part}
-use Rattle.graph.specs.declared.Settings.{Settings}
-use Rattle.graph.specs.declared.Rounds.{Rounds}
-use Rattle.rounds.specs.Rounds.{after, Round, round, Out, out, outcomeFrom, outcome}
+use Rattle.rounds.specs.Rounds.{after, round}
 use Rattle.rounds.specs.Vectors.{entry, currentIn, nextIn, Vectors}
-use Rattle.rounds.proofs.Rounds.{rest, rounds-more, rounds-met, rounds-over, rounds-before}
-use Rattle.rounds.proofs.Vectors.{vectors-then, vectors-are}
-use Rattle.rounds.specs.Steps.{RoundsDone}
-use Rattle.pagerank.specs.Links.{Links, linksIn, sharesIn, outsIn, one, double, gives, distributes, absoluteChange, settles}
-use Rattle.pagerank.specs.PageRank.{danglingSum, pagerankBase, pagerankNode, pagerankNext, pagerankStep}
-use Rattle.pagerank.specs.Steps.{LinksPre, Advanced, RoundDone}
-use Rattle.pagerank.proofs.Turns.{vectors-none, links-kept, out-at, distributed}
+use Rattle.rounds.proofs.Vectors.{vectors-then, vectors-are, current-at}
+use Rattle.links.specs.Links.{Links, linksIn, sharesIn, outsIn, one, double, gives, settles}
+use Rattle.links.specs.Steps.{LinksPre, Advanced, RoundDone}
+use Rattle.links.proofs.Turns.{vectors-none, links-kept, out-at, distributed}
+use Rattle.links.proofs.Rounds.{pre-kept, advanced-round}
+use Rattle.pagerank.specs.PageRank.{danglingSum, pagerankBase, pagerankNode, pagerankNext, pagerankStep, dangles, withDangling}
 
 -- ---- one node
 module _ (n : ℕ) (w : List ℕ) (d : Float) (v : ℕ) (wf : List Float) (l : v < n) where
@@ -42,11 +35,19 @@ module _ (n : ℕ) (w : List ℕ) (d : Float) (v : ℕ) (wf : List Float) (l : v
       let b : lt zeroF (entry (outsIn n wf) v) ≡ false = ap (lt zeroF) (sym (out-at n wf v l)) ∙ t in
       rw b (vectors-none n wf refl)
 
--- ---- one round
-pub links-pre-long : {n : ℕ} {w : List ℕ} {wf wf′ : List Float} → LinksPre n w wf → length wf′ ≡ length wf → LinksPre n w wf′
-links-pre-long p e =
-    record { rises = p .rises; entries = p .entries; nodes = p .nodes; weights = λ v l. omega (arith, p .weights v l); room = omega (arith, p .room) }
+-- what a node adds to the dangling sum
+pub dangling-at : (n : ℕ) (wf : List Float) (i : ℕ) (sum : Float) → i < n → dangles (getD wf (2 * n + i) nan) (getD wf i nan) sum ≡ withDangling (outsIn n wf) (currentIn n wf) i sum
+dangling-at n wf i sum l =
+    ap (λ (z : Float). dangles z (getD wf i nan) sum) (out-at n wf i l)
+    ∙ ap (λ (z : Float). dangles (entry (outsIn n wf) i) z sum) (current-at n wf i l)
 
+pub dangling-yes : (out x sum : Float) → eq out zeroF ≡ true → add binary64 sum x ≡ dangles out x sum
+dangling-yes out x sum e = rw e
+
+pub dangling-no : (out x sum : Float) → eq out zeroF ≡ false → sum ≡ dangles out x sum
+dangling-no out x sum e = rw e
+
+-- ---- one round
 pub filled-vectors : (n : ℕ) {wf wf′ : List Float} {b : Float} → n + n ≤ length wf → Filled wf n n b wf′ → Vectors n wf (currentIn n wf) (listOf (λ _. b) n) wf′
 filled-vectors n room f =
     record {
@@ -55,26 +56,13 @@ filled-vectors n room f =
       next = filled-part f room;
     }
 
--- the next vector became the current one after a round made it
-pub advanced-round : (n : ℕ) (next : List Float → List Float) {wf wf2 wf3 : List Float} {change : Float}
-    → Vectors n wf (currentIn n wf) (next (currentIn n wf)) wf2 → Advanced n wf2 change wf3 → RoundDone n next wf change wf3
-advanced-round n next {wf} {wf2} s a =
-    record {
-      front = front-then (s .front) (a .front);
-      current = a .current ∙ s .next;
-      changed = a .changed ∙ ap (λ (x : List Float). absoluteChange n x (nextIn n wf2)) (s .current) ∙ ap (absoluteChange n (currentIn n wf)) (sym (a .current));
-    }
-
 module _ (n : ℕ) (w : List ℕ) (d : Float) (wf : List Float) (pre : LinksPre n w wf) where
-  pub pre-kept : {wf′ : List Float} → Front wf (n + n) wf′ → LinksPre n w wf′
-  pre-kept f = links-pre-long pre (f .long)
-
   module _ {wf1 : List Float} {dangling base : Float} (ed : dangling ≡ danglingSum n (outsIn n wf) (currentIn n wf)) (eb : base ≡ pagerankBase n d dangling) (f : Filled wf n n base wf1) where
     begun : Vectors n wf (currentIn n wf) (listOf (λ _. base) n) wf1
     begun = filled-vectors n (omega (arith, pre .room)) f
 
     pub spread-pre : LinksPre n w wf1
-    spread-pre = pre-kept (begun .front)
+    spread-pre = pre-kept n w pre (begun .front)
 
     pub round-done : {wf2 wf3 : List Float} {change : Float} → Vectors n wf1 (currentIn n wf1) (after (pagerankNode (linksIn n w wf1) d (currentIn n wf1)) n (nextIn n wf1)) wf2 → Advanced n wf2 change wf3
         → RoundDone n (pagerankNext (linksIn n w wf) d) wf change wf3
@@ -105,49 +93,6 @@ module _ (n : ℕ) (w : List ℕ) (d : Float) {wf₀ wf : List Float} (pre : Lin
         changed = r .changed;
       }
 
--- ---- rounds, of which k are done
-module _ (n : ℕ) (next : List Float → List Float) (step : List Float → Round (List Float)) (tolerance : Float)
-    (is : (x : List Float) → step x ≡ round (next x) (settles tolerance n x (next x))) (limit : ℕ) (wf₀ : List Float) where
-  abbrev end : Out (List Float)
-  end = outcomeFrom step limit 0 (currentIn n wf₀)
-
-  pub record Running (k : ℕ) (wf : List Float) : Type 0 where
-    pub front : Front wf₀ (n + n) wf
-    pub rounds-left : rest step end limit k (currentIn n wf) ≡ end
-
-  pub running-none : Running 0 wf₀
-  running-none = record { front = front-none wf₀ (n + n); rounds-left = ap (λ (j : ℕ). outcomeFrom step j 0 (currentIn n wf₀)) (sub-zero limit) }
-
-  module _ {k : ℕ} {change bound : Float} {wf wf′ : List Float} (s : Running k wf) (l : k < limit) (r : RoundDone n next wf change wf′) (eb : bound ≡ mul binary64 tolerance (double n)) where
-    stepped : step (currentIn n wf) ≡ round (currentIn n wf′) (lt change bound)
-    unfolding settles
-    stepped =
-        is (currentIn n wf)
-        ∙ ap (λ (y : List Float). round y (settles tolerance n (currentIn n wf) y)) (sym (r .current))
-        ∙ ap (λ (c : Float). round (currentIn n wf′) (lt c (mul binary64 tolerance (double n)))) (sym (r .changed))
-        ∙ ap (λ (b : Float). round (currentIn n wf′) (lt change b)) (sym eb)
-
-    pub running-more : lt change bound ≡ false → Running (k + 1) wf′
-    running-more f = record { front = front-then (s .front) (r .front); rounds-left = rounds-more step end limit l stepped f (s .rounds-left) }
-
-    pub running-met : (settings : Settings) → lt change bound ≡ true → RoundsDone n settings end wf₀ (record { settings = settings; rounds = k + 1; settled = true }) wf′
-    running-met settings f = record { front = front-then (s .front) (r .front); settings-kept = refl; ended = rounds-met step end limit l stepped f (s .rounds-left) }
-
-  pub running-over : (settings : Settings) {k : ℕ} {wf : List Float} → limit ≤ k → Running k wf → RoundsDone n settings end wf₀ (record { settings = settings; rounds = k; settled = false }) wf
-  running-over settings l s = record { front = s .front; settings-kept = refl; ended = rounds-over step end limit l (s .rounds-left) }
-
 pub pagerank-is : (l : Links) (d tolerance : Float) (x : List Float) → pagerankStep l d tolerance x ≡ round (pagerankNext l d x) (settles tolerance (l .nodes) x (pagerankNext l d x))
 unfolding pagerankStep
 pagerank-is l d tolerance x = refl
-
--- ---- the two ways of `run`
-module _ (n : ℕ) (step : List Float → Round (List Float)) (settings : Settings) (wf : List Float) where
-  abbrev Ended : Rounds → List Float → Type 0
-  Ended r wf′ = RoundsDone n settings (outcome (eqb n 0) step (settings .limit) (currentIn n wf)) wf r wf′
-
-  pub run-none : n ≡ 0 → Ended (record { settings = settings; rounds = 0; settled = true }) wf
-  run-none e = record { front = front-none wf (n + n); settings-kept = refl; ended = rounds-before step (settings .limit) (eqb n 0) (currentIn n wf) (eq-eqb n 0 e) }
-
-  pub run-some : (n ≡ 0 → ⊥) → {r : Rounds} {wf′ : List Float} → RoundsDone n settings (outcomeFrom step (settings .limit) 0 (currentIn n wf)) wf r wf′ → Ended r wf′
-  unfolding outcome
-  run-some e h = rw (ne-eqb n 0 e) h

@@ -1,4 +1,1 @@
-pub mod Links
 pub mod PageRank
-pub mod Personalized
-pub mod Steps

@@ -18,7 +18,7 @@ use Rattle.rounds.specs.Rounds.{after, Round, round, Out, outcome}
 use Rattle.rounds.specs.Tests.{readsWrong, lengthWrong, iterativeTests}
 use Rattle.rounds.specs.Ending.{scored}
 use Rattle.rounds.specs.Vectors.{entry}
-use Rattle.pagerank.specs.Links.{Links, linksOf, one, double, distributes, settles, divisorOf, divided}
+use Rattle.links.specs.Links.{Links, linksOf, one, double, distributes, settles, divisorOf, divided}
 
 -- ---- a round
 

@@ -215,7 +215,7 @@ fn iterated(
             w64,
             wf,
         )),
-        11 => ended(pagerank::personalized_pagerank(
+        11 => ended(personalized_pagerank::personalized_pagerank(
             n,
             directed,
             from,

@@ -16,7 +16,7 @@ use Rattle.graph.specs.Refusals.{firstOf, firstRefusal}
 use Rattle.graph.specs.Left.{left}
 use Rattle.rounds.specs.Rounds.{after, outcomeFrom, outcome}
 use Rattle.rounds.specs.Tests.{readsWrong}
-use Rattle.pagerank.specs.Links.{distributes, absoluteChange, settles, sumOf, divided}
+use Rattle.links.specs.Links.{distributes, absoluteChange, settles, sumOf, divided}
 use Rattle.pagerank.specs.PageRank.{danglingSum, pagerankBase, pagerankNode, pagerankNext, pagerankStep, pagerankRounds, pagerankOutcome}
 
 abbrev float : ℕ → Float

@@ -7,7 +7,7 @@ use Rattle.regions.specs.Region.{zeroF}
 use Rattle.rounds.specs.Rounds.{after}
 use Rattle.rounds.specs.Vectors.{currentIn}
 use Rattle.rounds.proofs.Rounds.{after-none, after-more}
-use Rattle.pagerank.specs.Links.{outsIn}
+use Rattle.links.specs.Links.{outsIn}
 use Rattle.pagerank.specs.PageRank.{withDangling, danglingSum}
 use borrow.Author.Needs.{needs}
 use Rattle.pagerank.proofs.dangling_sum.Statement.{statement}

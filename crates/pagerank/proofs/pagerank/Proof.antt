@@ -8,7 +8,8 @@ use Rattle.graph.specs.Pres.{Passed}
 use Rattle.graph.proofs.Refusals.{passed}
 use Rattle.graph.proofs.Left.{refused}
 use Rattle.pagerank.specs.PageRank.{pagerankTests, pagerankOutcome}
-use Rattle.pagerank.proofs.Ending.{prepare-pre, write-pre, answered, ready, fits, divide-pre, run-pre, moved, ended}
+use Rattle.links.proofs.Ending.{prepare-pre, write-pre}
+use Rattle.pagerank.proofs.Ending.{answered, ready, fits, divide-pre, run-pre, moved, ended}
 use borrow.Author.Needs.{needs}
 use Rattle.pagerank.proofs.pagerank.Statement.{statement}
 use Rattle.pagerank.proofs.pagerank.Tie as tie

@@ -1,7 +1,7 @@
 -- `pagerank::run` meets its contract. Assumes nothing.
-use Rattle.pagerank.specs.Links.{linksIn}
+use Rattle.links.specs.Links.{linksIn}
 use Rattle.pagerank.specs.PageRank.{pagerankStep}
-use Rattle.pagerank.proofs.Nodes.{run-none, run-some}
+use Rattle.links.proofs.Rounds.{run-none, run-some}
 use borrow.Author.Needs.{needs}
 use Rattle.pagerank.proofs.run.Statement.{statement}
 use Rattle.pagerank.proofs.run.Tie as tie

@@ -3,9 +3,10 @@ use mathlib.Core.Path.{_≡_, ap}
 use Prim.Native.Nat.{ℕ, _-_, _≤_}
 use native.Mathlib.Omega.{arith}
 use lib.Ieee.{binary64, mul}
-use Rattle.pagerank.specs.Links.{linksIn}
+use Rattle.links.specs.Links.{linksIn}
 use Rattle.pagerank.specs.PageRank.{pagerankNext, pagerankStep}
-use Rattle.pagerank.proofs.Nodes.{pre-kept, round-kept, Running, running-none, running-more, running-met, running-over, pagerank-is}
+use Rattle.links.proofs.Rounds.{pre-kept, Running, running-none, running-more, running-met, running-over}
+use Rattle.pagerank.proofs.Nodes.{round-kept, pagerank-is}
 use borrow.Author.Needs.{needs}
 use Rattle.pagerank.proofs.run_on.Statement.{statement}
 use Rattle.pagerank.proofs.run_on.Tie as tie
@@ -24,7 +25,7 @@ loop-holds : tie.Need-loop-holds Inv-loop μ-loop
 loop-holds c = let s = c .before .before .before .before in (omega arith, running-none (s .args .nodes) (pagerankNext (linksIn (s .args .nodes) (s .args .w .now) (s .args .wf .now)) (s .args .settings .damping)) (pagerankStep (linksIn (s .args .nodes) (s .args .w .now) (s .args .wf .now)) (s .args .settings .damping) (s .args .settings .tolerance)) (s .args .settings .tolerance) (pagerank-is (linksIn (s .args .nodes) (s .args .w .now) (s .args .wf .now)) (s .args .settings .damping) (s .args .settings .tolerance)) (s .args .settings .limit) (s .args .wf .now))
 
 round-requires : tie.Need-round-requires Inv-loop μ-loop
-round-requires c κs = let s = c .before .before .before .before .before .before .before in pre-kept _ _ (s .args .settings .damping) _ (s .pre) (c .before .before .loop .inv .1 .front)
+round-requires c κs = let s = c .before .before .before .before .before .before .before in pre-kept _ _ (s .pre) (c .before .before .loop .inv .1 .front)
 
 add-k : tie.Need-add-k Inv-loop μ-loop
 add-k c = search needs

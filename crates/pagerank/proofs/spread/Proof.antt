@@ -6,10 +6,10 @@ use native.Mathlib.Omega.{arith}
 use lib.Ieee.{Float}
 use Rattle.rounds.specs.Rounds.{after}
 use Rattle.rounds.specs.Vectors.{currentIn, nextIn, Vectors}
-use Rattle.pagerank.specs.Links.{Links, linksIn}
+use Rattle.links.specs.Links.{Links, linksIn}
 use Rattle.pagerank.specs.PageRank.{pagerankNode}
-use Rattle.pagerank.proofs.Turns.{links-kept, nodes-none, nodes-more, nodes-done}
-use Rattle.pagerank.proofs.Nodes.{pre-kept}
+use Rattle.links.proofs.Turns.{links-kept, nodes-none, nodes-more, nodes-done}
+use Rattle.links.proofs.Rounds.{pre-kept}
 use borrow.Author.Needs.{needs}
 use Rattle.pagerank.proofs.spread.Statement.{statement}
 use Rattle.pagerank.proofs.spread.Tie as tie
@@ -25,7 +25,7 @@ loop-holds : tie.Need-loop-holds Inv-loop μ-loop
 loop-holds c = let s = c .before .before in (omega arith, nodes-none (s .args .nodes) (pagerankNode (linksIn (s .args .nodes) (s .args .w .now) (s .args .wf .now)) (s .args .damping) (currentIn (s .args .nodes) (s .args .wf .now))) (s .args .wf .now))
 
 spread-node-requires : tie.Need-spread-node-requires Inv-loop μ-loop
-spread-node-requires c κs = (pre-kept _ _ (c .before .before .before .before .before .args .damping) _ (c .before .before .before .before .before .pre) (c .before .before .loop .inv .1 .front), c .before .loop-test .taken)
+spread-node-requires c κs = (pre-kept _ _ (c .before .before .before .before .before .pre) (c .before .before .loop .inv .1 .front), c .before .loop-test .taken)
 
 add-v : tie.Need-add-v Inv-loop μ-loop
 add-v c = search needs

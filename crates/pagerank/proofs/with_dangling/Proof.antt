@@ -2,7 +2,7 @@
 use mathlib.Core.Path.{_≡_, _∙_}
 use native.Mathlib.Omega.{arith}
 use lib.Ieee.{ofBits}
-use Rattle.pagerank.proofs.Turns.{dangling-at, dangling-yes, dangling-no}
+use Rattle.pagerank.proofs.Nodes.{dangling-at, dangling-yes, dangling-no}
 use borrow.Author.Needs.{needs}
 use Rattle.pagerank.proofs.with_dangling.Statement.{statement}
 use Rattle.pagerank.proofs.with_dangling.Tie as tie

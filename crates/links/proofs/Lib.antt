@@ -1,0 +1,6 @@
+pub mod Turns
+pub mod Weights
+pub mod Rounds
+pub mod Ending
+pub mod Changes
+pub mod Settled

@@ -1,0 +1,191 @@
+-- The turns of the PageRanks' loops over the vectors in the workspace. Assumes nothing.
+use mathlib.Core.Path.{_≡_, refl, sym, ap, _∙_}
+use mathlib.Core.List.{List, [], foldl}
+use Prim.Native.Nat.{ℕ, _+_, _*_, _-_, _≤_, _<_}
+use native.Mathlib.Nat.{zero-add}
+use native.Mathlib.Omega.{arith}
+use lib.ListN.{length, getD, set}
+use lib.Ieee.{Float, nan, binary64, add, sub, mul, div}
+use Rattle.roots.specs.Absolute.{absOf}
+use Rattle.regions.specs.Region.{zeroF, listOf, part, Front, Frame, Copied}
+use Rattle.regions.proofs.Parts.{part-at, part-is, part-list, list-at}
+use Rattle.regions.proofs.Fronts.{list-same, front-none, front-wide}
+use Rattle.regions.proofs.Frames.{frame-part, front-frame, frame-front, frame-none, frame-set, store-more, copied-none, copied-more}
+use Rattle.graph.specs.Layout.{entriesAt}
+use Rattle.lists.specs.Lists.{Share, share, longAt}
+use Rattle.lists.proofs.Reading.{fold-none, fold-more}
+use Rattle.rounds.specs.Rounds.{after}
+use Rattle.rounds.specs.Vectors.{entry, currentIn, nextIn, Vectors}
+use Rattle.rounds.proofs.Rounds.{after-none, after-more}
+use Rattle.rounds.proofs.Vectors.{current-at, next-at, next-set, vectors-then, vectors-are}
+use Rattle.links.specs.Links.{linksIn, shareIn, sharesIn, weightsAt, outsIn, gives, distributes, withChange, absoluteChange}
+use Rattle.links.specs.Steps.{LinksPre, Advanced, Divided}
+
+-- both vectors as they are
+pub vectors-none : (n : ℕ) (w : List Float) {y : List Float} → nextIn n w ≡ y → Vectors n w (currentIn n w) y w
+vectors-none n w e = record { front = front-none w (n + n); current = refl; next = e }
+
+-- ---- `give`
+-- where a walk over the list of v reads
+pub record Offsets (n : ℕ) (w : List ℕ) (wf : List Float) (v : ℕ) : Type 0 where
+  pub next : v + 1 < length w
+  pub rises : getD w v 0 ≤ getD w (v + 1) 0
+  pub entries : entriesAt n + getD w (v + 1) 0 ≤ length w
+  pub weights : weightsAt n + getD w (v + 1) 0 ≤ length wf
+  pub room : 4 * n ≤ length wf
+
+pub offsets : (n : ℕ) (w : List ℕ) (wf : List Float) → LinksPre n w wf → (v : ℕ) → v < n → Offsets n w wf v
+offsets n w wf pre v l =
+    record { next = omega (arith, pre .entries v l); rises = pre .rises v l; entries = pre .entries v l; weights = pre .weights v l; room = pre .room }
+
+module _ (n : ℕ) (w : List ℕ) (v : ℕ) (c : Float) (wf₀ : List Float) where
+  abbrev held : ℕ → Share
+  held k = shareIn n w wf₀ (getD w v 0 + k)
+
+  -- the next vector after the entries before the jth place
+  abbrev pub givenTo : ℕ → List Float
+  givenTo j = foldl (gives c) (nextIn n wf₀) (listOf held (j - getD w v 0))
+
+  pub give-none : Vectors n wf₀ (currentIn n wf₀) (givenTo (getD w v 0)) wf₀
+  give-none = vectors-none n wf₀ (fold-none (gives c) (nextIn n wf₀) held ∙ ap (λ (i : ℕ). foldl (gives c) (nextIn n wf₀) (listOf held i)) (gone (getD w v 0)))
+    where
+      gone : (a : ℕ) → 0 ≡ a - a
+      gone a = omega arith
+
+  pub give-more : (j : ℕ) (wf : List Float) → n + n ≤ length wf₀ → getD w v 0 ≤ j → getD w (entriesAt n + j) 0 < n
+      → Vectors n wf₀ (currentIn n wf₀) (givenTo j) wf
+      → Vectors n wf₀ (currentIn n wf₀) (givenTo (j + 1))
+      (set wf (n + getD w (entriesAt n + j) 0) (add binary64 (getD wf (n + getD w (entriesAt n + j) 0) nan) (mul binary64 c (getD wf (weightsAt n + j) nan))))
+  give-more j wf room l inside s =
+      let t = getD w (entriesAt n + j) 0 in
+      let x = mul binary64 c (getD wf (weightsAt n + j) nan) in
+      vectors-then s
+      (vectors-are (s .current)
+      (ap (λ (a : Float). set (nextIn n wf) t (add binary64 a x)) (next-at n wf t inside)
+      ∙ ap (λ (z : Float). set (nextIn n wf) t (add binary64 (entry (nextIn n wf) t) (mul binary64 c z))) (s .front .rest nan (weightsAt n + j) (omega arith))
+      ∙ fold-more (gives c) (nextIn n wf₀) held (j - getD w v 0) (nextIn n wf) (shareIn n w wf₀ j) (s .next) (ap (shareIn n w wf₀) (there (getD w v 0) l))
+      ∙ ap (λ (i : ℕ). foldl (gives c) (nextIn n wf₀) (listOf held i)) (later (getD w v 0) l))
+      (next-set n wf t (add binary64 (getD wf (n + t) nan) x) (omega (arith, s .front .long)) inside))
+    where
+      there : (a : ℕ) → a ≤ j → j ≡ a + (j - a)
+      there a q = omega arith
+
+      later : (a : ℕ) → a ≤ j → j - a + 1 ≡ j + 1 - a
+      later a q = omega arith
+
+  pub give-done : (j : ℕ) (wf : List Float) → j ≡ getD w (v + 1) 0 → Vectors n wf₀ (currentIn n wf₀) (givenTo j) wf
+      → Vectors n wf₀ (currentIn n wf₀) (foldl (gives c) (nextIn n wf₀) (sharesIn n w wf₀ v)) wf
+  give-done j wf e s = vectors-are refl (ap givenTo e) s
+
+-- ---- what a round reads is kept while it writes
+-- the lists, whatever becomes of the four vectors
+pub shares-kept : (n : ℕ) (w : List ℕ) {wf wf′ : List Float} → Front wf (4 * n) wf′ → listOf (sharesIn n w wf′) n ≡ listOf (sharesIn n w wf) n
+shares-kept n w {wf} {wf′} front =
+    list-same (sharesIn n w wf′) (sharesIn n w wf) n
+    (λ v l. list-same (λ k. shareIn n w wf′ (getD w v 0 + k)) (λ k. shareIn n w wf (getD w v 0 + k)) (longAt w v)
+    (λ k h. ap (share (getD w (entriesAt n + (getD w v 0 + k)) 0)) (front .rest nan (weightsAt n + (getD w v 0 + k)) (omega arith))))
+
+module _ (n : ℕ) (w : List ℕ) {wf wf′ : List Float} (room : 4 * n ≤ length wf) (front : Front wf (n + n) wf′) where
+  pub region-kept : (b : ℕ) → n + n ≤ b → b + n ≤ 4 * n → part wf′ b n ≡ part wf b n
+  region-kept b l h = frame-part nan b n (front-frame front) (omega arith) (λ i k p q. omega arith)
+
+  pub outs-kept : outsIn n wf′ ≡ outsIn n wf
+  outs-kept = region-kept (2 * n) (omega arith) (omega arith)
+
+  pub links-kept : linksIn n w wf′ ≡ linksIn n w wf
+  links-kept =
+      ap (λ (o : List Float). record { nodes = n; outs = o; shares = listOf (sharesIn n w wf′) n }) outs-kept
+      ∙ ap (λ (x : List (List Share)). record { nodes = n; outs = outsIn n wf; shares = x }) (shares-kept n w (front-wide (4 * n) (omega arith) front))
+
+pub out-at : (n : ℕ) (wf : List Float) (v : ℕ) → v < n → getD wf (2 * n + v) nan ≡ entry (outsIn n wf) v
+out-at n wf v l = sym (part-at wf (2 * n) n nan v l)
+
+-- what `give` did for a node that distributes
+module _ (n : ℕ) (w : List ℕ) (d : Float) (v : ℕ) (wf : List Float) (l : v < n) where
+  pub distributed : {wf′ : List Float}
+      → Vectors n wf (currentIn n wf) (foldl (gives (div binary64 (mul binary64 d (getD wf v nan)) (getD wf (2 * n + v) nan))) (nextIn n wf) (sharesIn n w wf v)) wf′
+      → Vectors n wf (currentIn n wf) (distributes (linksIn n w wf) d (currentIn n wf) v (nextIn n wf)) wf′
+  unfolding distributes
+  distributed s =
+      vectors-are refl
+      (ap (λ (x : Float). foldl (gives (div binary64 (mul binary64 d x) (getD wf (2 * n + v) nan))) (nextIn n wf) (sharesIn n w wf v)) (current-at n wf v l)
+      ∙ ap (λ (o : Float). foldl (gives (div binary64 (mul binary64 d (entry (currentIn n wf) v)) o)) (nextIn n wf) (sharesIn n w wf v)) (out-at n wf v l)
+      ∙ ap (λ (shares : List Share). foldl (gives (div binary64 (mul binary64 d (entry (currentIn n wf) v)) (entry (outsIn n wf) v))) (nextIn n wf) shares) (sym (list-at (sharesIn n w wf) n [] v l)))
+      s
+
+-- ---- a loop over the nodes that changes the next vector
+module _ (n : ℕ) (turn : ℕ → List Float → List Float) (wf₀ : List Float) where
+  pub nodes-none : Vectors n wf₀ (currentIn n wf₀) (after turn 0 (nextIn n wf₀)) wf₀
+  nodes-none = vectors-none n wf₀ (after-none turn (nextIn n wf₀))
+
+  -- one node: y is what it makes of the next vector
+  pub nodes-more : {v : ℕ} {wf wf′ x y : List Float} → Vectors n wf₀ (currentIn n wf₀) (after turn v (nextIn n wf₀)) wf → Vectors n wf x y wf′
+      → x ≡ currentIn n wf → y ≡ turn v (nextIn n wf) → Vectors n wf₀ (currentIn n wf₀) (after turn (v + 1) (nextIn n wf₀)) wf′
+  nodes-more {v} {wf} s t ex ey =
+      vectors-then s (vectors-are (ex ∙ s .current) (ey ∙ after-more turn v (nextIn n wf₀) (nextIn n wf) (s .next)) t)
+
+  pub nodes-done : {v : ℕ} {wf : List Float} → v ≡ n → Vectors n wf₀ (currentIn n wf₀) (after turn v (nextIn n wf₀)) wf → Vectors n wf₀ (currentIn n wf₀) (after turn n (nextIn n wf₀)) wf
+  nodes-done e s = vectors-are refl (ap (λ (k : ℕ). after turn k (nextIn n wf₀)) e) s
+
+-- ---- `advance`
+-- after i nodes
+pub record Advancing (n : ℕ) (wf₀ : List Float) (i : ℕ) (change : Float) (wf : List Float) : Type 0 where
+  pub copied : Copied wf₀ n wf₀ 0 i wf
+  pub change-is : change ≡ after (withChange (currentIn n wf₀) (nextIn n wf₀)) i zeroF
+
+module _ (n : ℕ) (wf₀ : List Float) (room : 4 * n ≤ length wf₀) where
+  pub advancing-none : Advancing n wf₀ 0 zeroF wf₀
+  advancing-none =
+      record {
+        copied = copied-none wf₀ n wf₀ 0;
+        change-is = after-none (withChange (currentIn n wf₀) (nextIn n wf₀)) zeroF;
+      }
+
+  module _ (i : ℕ) (change : Float) (wf : List Float) (l : i < n) (s : Advancing n wf₀ i change wf) where
+    left : (j : ℕ) → i ≤ j → getD wf j nan ≡ getD wf₀ j nan
+    left j h = s .copied .frame .rest nan j (λ p q. omega arith)
+
+    x-is : getD wf i nan ≡ entry (currentIn n wf₀) i
+    x-is = left i (omega arith) ∙ current-at n wf₀ i l
+
+    y-is : getD wf (n + i) nan ≡ entry (nextIn n wf₀) i
+    y-is = left (n + i) (omega arith) ∙ next-at n wf₀ i l
+
+    pub advancing-more : {a : Float} → a ≡ absOf (sub binary64 (getD wf i nan) (getD wf (n + i) nan))
+        → Advancing n wf₀ (i + 1) (add binary64 change a) (set wf i (getD wf (n + i) nan))
+    advancing-more {a} ea =
+        record {
+          copied = rw (zero-add i) at (copied-more nan (getD wf (n + i) nan) (s .copied) (omega arith) (omega arith) (left (n + i) (omega arith)));
+          change-is =
+              ap (λ (z : Float). add binary64 change z) (ea ∙ ap (λ (z : Float). absOf (sub binary64 z (getD wf (n + i) nan))) x-is ∙ ap (λ (z : Float). absOf (sub binary64 (entry (currentIn n wf₀) i) z)) y-is)
+              ∙ after-more (withChange (currentIn n wf₀) (nextIn n wf₀)) i zeroF change (s .change-is);
+        }
+
+  pub advancing-done : (i : ℕ) (change : Float) (wf : List Float) → i ≡ n → Advancing n wf₀ i change wf → Advanced n wf₀ change wf
+  unfolding absoluteChange
+  advancing-done i change wf e s =
+      record {
+        front = frame-front (n + n) (omega arith) (s .copied .frame);
+        current = part-is nan wf 0 n (λ k. getD wf₀ (n + k) nan) (omega (arith, s .copied .frame .long)) (λ k h. s .copied .at nan k (omega arith)) ∙ part-list nan wf₀ n n (omega arith);
+        changed = s .change-is ∙ ap (λ (k : ℕ). after (withChange (currentIn n wf₀) (nextIn n wf₀)) k zeroF) e;
+      }
+
+-- ---- `divide`
+-- after i nodes
+pub record Dividing (n base : ℕ) (f : ℕ → Float) (wf₀ : List Float) (i : ℕ) (wf : List Float) : Type 0 where
+  pub frame : Frame wf₀ base n wf
+  pub at : (k : ℕ) → k < i → getD wf (base + k) nan ≡ f k
+
+module _ (n base : ℕ) (f : ℕ → Float) (wf₀ : List Float) (room : base + n ≤ length wf₀) where
+  pub dividing-none : Dividing n base f wf₀ 0 wf₀
+  dividing-none = record { frame = frame-none wf₀ base n; at = λ k h. absurd (omega arith) }
+
+  pub dividing-more : (i : ℕ) (wf : List Float) {a : Float} → i < n → a ≡ f i → Dividing n base f wf₀ i wf → Dividing n base f wf₀ (i + 1) (set wf (base + i) a)
+  dividing-more i wf {a} l e s =
+      record {
+        frame = frame-set (base + i) a (s .frame) (omega arith) (omega arith);
+        at = store-more (λ k z. z ≡ f k) nan wf base i a (omega (arith, s .frame .long)) (s .at) e;
+      }
+
+  pub dividing-done : (i : ℕ) (wf : List Float) → i ≡ n → Dividing n base f wf₀ i wf → Divided n (listOf f n) base wf₀ wf
+  dividing-done i wf e s = record { frame = s .frame; there = part-is nan wf base n f (omega (arith, s .frame .long)) (λ k h. s .at k (omega arith)) }

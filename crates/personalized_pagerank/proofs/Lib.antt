@@ -1,0 +1,2 @@
+pub mod Personal
+pub mod Reader

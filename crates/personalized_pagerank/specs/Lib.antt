@@ -1,0 +1,2 @@
+pub mod Personalized
+pub mod Steps
