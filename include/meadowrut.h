@@ -16,7 +16,10 @@
  *
  * Answers. A call gives 0 (DONE) or the first refusal that applies; each call names its refusals in order. A refusal
  * leaves every result slice untouched, and fields of a returned struct other than `answer` are 0. Refusals 1 to 9 leave
- * the workspace untouched too.
+ * the workspace untouched too. Without nodes, a call that never refuses EMPTY is DONE with nothing; an iterative one then
+ * reports 0 rounds, settled 1.
+ *
+ * A score that is a NaN may have the bits of any NaN.
  *
  * Front and room. Every call that takes a workspace needs, and DONE, PATHS and UNSETTLED leave zero, the front
  *     w32: 8*nodes + 8*m + 8     w64: 2*nodes     wf: 6*nodes + 4*m
@@ -59,7 +62,7 @@ enum {
 #define MEADOWRUT_FRONT64(nodes, m) (2 * (size_t)(nodes))
 #define MEADOWRUT_FRONTF(nodes, m) (6 * (size_t)(nodes) + 4 * (size_t)(m))
 
-/* Settings of the iterative measures. For Katz, damping is alpha. Eigenvector does not read damping. */
+/* Settings of the iterative measures. For Katz, damping is alpha. Eigenvector does not read damping, and returns it. */
 typedef struct {
     double damping;
     double tolerance;
@@ -118,7 +121,8 @@ uint32_t meadowrut_survey(
     uint32_t *distances, size_t distances_len, uint64_t *counts, size_t counts_len,
     uint32_t *w32, size_t w32_len, uint64_t *w64, size_t w64_len, double *wf, size_t wf_len);
 
-/* Betweenness of each node (Brandes 2001); normalized is 0 or not 0.
+/* Betweenness of each node (Brandes 2001), from every node as a start. normalized is 0 or not 0. Normalized: times
+ * 1/((nodes-1)*(nodes-2)) if nodes > 2, else as it is. Raw: undirected times 0.5, directed as it is.
  * Refuses SIZE, EMPTY, NODE, ROOM, PATHS. Room: scores nodes. */
 uint32_t meadowrut_betweenness(
     size_t nodes, uint32_t directed,
@@ -127,8 +131,9 @@ uint32_t meadowrut_betweenness(
     double *scores, size_t scores_len,
     uint32_t *w32, size_t w32_len, uint64_t *w64, size_t w64_len, double *wf, size_t wf_len);
 
-/* Betweenness of each edge: the total of its ordered pair (from, to) forward, of (to, from) back. A directed call
- * neither needs nor touches back.
+/* Betweenness of each edge: the total of its ordered pair (from, to) forward, of (to, from) back. Parallel edges share
+ * their pair's total. Normalized and nodes > 1: times 1/(nodes*(nodes-1)) directed, 2/(nodes*(nodes-1)) undirected.
+ * Raw: as it is; undirected is not halved. A directed call neither needs nor touches back.
  * Refuses SIZE, EMPTY, NODE, ROOM, PATHS. Room: forward m; undirected, back m. */
 uint32_t meadowrut_edge_betweenness(
     size_t nodes, uint32_t directed,
@@ -142,7 +147,7 @@ uint32_t meadowrut_edge_betweenness(
 uint32_t meadowrut_local_reaching(
     size_t nodes, uint32_t directed,
     const uint32_t *from, size_t from_len, const uint32_t *to, size_t to_len, const double *weight, size_t weight_len,
-    size_t hops,
+    uint64_t hops,
     double *scores, size_t scores_len,
     uint32_t *w32, size_t w32_len, uint64_t *w64, size_t w64_len, double *wf, size_t wf_len);
 
@@ -172,7 +177,8 @@ uint32_t meadowrut_laplacian(
     uint32_t *w32, size_t w32_len, uint64_t *w64, size_t w64_len, double *wf, size_t wf_len);
 
 /* PageRank. Stops when the summed absolute change is below tolerance*nodes; running out of rounds is DONE, settled 0.
- * start is read if given is not 0, and then has one entry for each node.
+ * start is read only if given is not 0, has one entry for each node and is divided by its sum; else every node starts
+ * with 1/nodes.
  * Reads weights, damping, tolerance and a given start.
  * Refuses SIZE, NODE, NUMBER, LENGTH, START, ROOM. Room: scores nodes. */
 meadowrut_report meadowrut_pagerank(
@@ -182,7 +188,9 @@ meadowrut_report meadowrut_pagerank(
     double *scores, size_t scores_len,
     uint32_t *w32, size_t w32_len, uint64_t *w64, size_t w64_len, double *wf, size_t wf_len);
 
-/* Personalized PageRank. A personalization whose sum is not positive, or that is not given, is uniform.
+/* Personalized PageRank. Stops as PageRank does; running out of rounds is DONE, settled 0. personalization is read only
+ * if given is not 0, has one entry for each node and is divided by its sum; one whose sum is not positive, or that is
+ * not given, is uniform.
  * Reads weights, damping, tolerance and a given personalization.
  * Refuses SIZE, EMPTY, NODE, NUMBER, DAMPING, ROUNDS, LENGTH, ROOM. Room: scores nodes. */
 meadowrut_report meadowrut_personalized_pagerank(
@@ -192,7 +200,9 @@ meadowrut_report meadowrut_personalized_pagerank(
     double *scores, size_t scores_len,
     uint32_t *w32, size_t w32_len, uint64_t *w64, size_t w64_len, double *wf, size_t wf_len);
 
-/* Eigenvector, by power iteration on A + I. Settles when the change's length is below tolerance, or at once without edges.
+/* Eigenvector, by power iteration on A + I from 1/sqrt(nodes) for each node. Settles when the root of the summed squared
+ * change is below tolerance, when a round's norm is below 1e-10 (every score is then 1/sqrt(nodes)), or at once without
+ * edges or nodes (the same scores). Running out of rounds is UNSETTLED.
  * Reads weights and tolerance.
  * Refuses SIZE, NODE, NUMBER, ROOM, UNSETTLED. Room: scores nodes. */
 meadowrut_report meadowrut_eigenvector(
@@ -202,7 +212,9 @@ meadowrut_report meadowrut_eigenvector(
     double *scores, size_t scores_len,
     uint32_t *w32, size_t w32_len, uint64_t *w64, size_t w64_len, double *wf, size_t wf_len);
 
-/* Katz: settings.damping is alpha; beta is 1 for each node unless given is not 0. The walks that leave a node count.
+/* Katz: settings.damping is alpha; beta is read only if given is not 0, and then has one entry for each node, else it is
+ * 1 for each. Scores start at 0, and each round begins from beta. The walks that leave a node count. Settles when the
+ * root of the summed squared change is below tolerance; running out of rounds is UNSETTLED.
  * Reads weights, alpha, tolerance and a given beta.
  * Refuses SIZE, NODE, NUMBER, LENGTH, ROOM, UNSETTLED. Room: scores nodes. */
 meadowrut_report meadowrut_katz(
@@ -217,13 +229,13 @@ meadowrut_report meadowrut_katz(
  * Room: output 32768. Elements beyond the length keep their bytes. Takes about 150 kilobytes of the stack. */
 meadowrut_text meadowrut_run(const uint8_t *input, size_t input_len, uint8_t *output, size_t output_len);
 
-/* The square root of IEEE 754, to nearest, ties to even. */
+/* The square root of IEEE 754, to nearest, ties to even. Both zeros are their own; below 0 it is a NaN. */
 double meadowrut_sqrt(double x);
 
 /* The absolute value: x with its sign cleared. */
 double meadowrut_abs(double x);
 
-/* The greater of the two numbers. */
+/* The greater of the two numbers, +0.0 above -0.0; beside a NaN the other one, and a NaN for two NaNs. */
 double meadowrut_max(double x, double y);
 
 /* The usual settings: damping 0.85, tolerance 1e-6, 100 rounds. */

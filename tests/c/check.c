@@ -1,10 +1,9 @@
 /* Calls each function of include/meadowrut.h from C, and checks a result and a refusal that were worked out by hand.
- * Arguments: the calls to check. Prints a line for each that is wrong, and a count. */
+ * Prints a line for each that is wrong, and a count. */
 #include "meadowrut.h"
 
 /* declared here, so that the file compiles for x86-64 where the C library's headers are another processor's */
 int printf(const char *, ...);
-int strcmp(const char *, const char *);
 
 enum { ROOM32 = 200, ROOM64 = 40, ROOMF = 200, SLOTS = 8, OUTPUT = 32768 };
 
@@ -249,38 +248,18 @@ static void usual(void) {
     expect("usual settings", s.damping == 0.85 && s.tolerance == 1e-6 && s.limit == 100);
 }
 
-static const struct {
-    const char *name;
-    void (*check)(void);
-} all[] = {
-    {"degree", degree},
-    {"in_degree", in_degree},
-    {"out_degree", out_degree},
-    {"survey", survey},
-    {"betweenness", betweenness},
-    {"edge_betweenness", edge_betweenness},
-    {"local_reaching", local_reaching},
-    {"global_reaching", global_reaching},
-    {"voterank", voterank},
-    {"laplacian", laplacian},
-    {"pagerank", pagerank},
-    {"personalized_pagerank", personalized_pagerank},
-    {"eigenvector", eigenvector},
-    {"katz", katz},
-    {"run", run},
-    {"sqrt", roots},
-    {"abs", absolute},
-    {"max", greater},
-    {"usual", usual},
+/* A check for each call of the header. */
+static void (*const all[])(void) = {
+    degree, in_degree, out_degree, survey, betweenness, edge_betweenness, local_reaching, global_reaching, voterank,
+    laplacian, pagerank, personalized_pagerank, eigenvector, katz, run, roots, absolute, greater, usual,
 };
 
-int main(int count, char **words) {
-    for (int i = 1; i < count; i++)
-        for (size_t k = 0; k < sizeof all / sizeof all[0]; k++)
-            if (strcmp(words[i], all[k].name) == 0) {
-                stir();
-                all[k].check();
-            }
-    printf("C interface: %d calls, %d results checked, %d wrong\n", count - 1, checks, wrong);
+int main(void) {
+    const int calls = sizeof all / sizeof all[0];
+    for (int i = 0; i < calls; i++) {
+        stir();
+        all[i]();
+    }
+    printf("C interface: %d calls, %d results checked, %d wrong\n", calls, checks, wrong);
     return wrong != 0;
 }

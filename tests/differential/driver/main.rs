@@ -265,7 +265,7 @@ fn main() {
     let get = |key: &str, other: u64| word(key).map_or(other, |w| w.parse().expect("a number"));
     let (count, seed) = (get("--count", 1000), get("--seed", 1));
     let started = Instant::now();
-    // the calls to compare; unless named, those that the library has
+    // the calls to compare; unless named, all of them
     let mut t = Tally::new(word("--calls").unwrap_or(env!("MEADOWRUT_CALLS")));
     let mode = words.first().map(String::as_str).unwrap_or("");
     match mode {
