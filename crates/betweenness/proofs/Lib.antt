@@ -1,9 +1,3 @@
-pub mod Starting
-pub mod Following
-pub mod Adding
-pub mod Indexing
-pub mod Preparing
 pub mod Scaling
-pub mod Wiping
 pub mod Ending
 pub mod Unique

@@ -14,7 +14,7 @@ use Rattle.regions.proofs.Fronts.{list-long, list-same}
 use Rattle.regions.proofs.Parts.{list-at, part-is}
 use Rattle.brandes.specs.Shares.{one, double}
 use Rattle.betweenness.specs.Betweenness.{half, scaled}
-use Rattle.betweenness.specs.Starts.{Scored}
+use Rattle.starts.specs.Starts.{Scored}
 
 module _ (n : ℕ) (directed normalized : Bool) (f scores : List Float) {written : List Float} where
   pub times-pairs : {factor : Float} → normalized ≡ true → 2 < n → factor ≡ double ((n - 1) * (n - 2)) → written ≡ over (listOf (λ v. mul binary64 (getD f v nan) (div binary64 one factor)) n) scores

@@ -1,2 +1,2 @@
 pub mod Betweenness
-pub mod Starts
+pub mod Writes

@@ -8,7 +8,7 @@ use lib.Seq.{getD-set-other, set-comm}
 use lib.Ieee.{Float, nan, binary64, add}
 use Rattle.graph.specs.Edges.{Graph}
 use Rattle.hops.proofs.Sums.{eq-or-ne, eqb-no}
-use Rattle.brandes.specs.Order.{entered}
+use Rattle.predecessors.specs.Order.{entered}
 use Rattle.brandes.specs.Shares.{one, share, grow, Sums, passed, leave}
 
 -- ---- where delta stays

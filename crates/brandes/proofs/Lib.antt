@@ -1,12 +1,5 @@
 pub mod Folds
 pub mod Passing
-pub mod Entering
-pub mod Order
-pub mod Predecessors
-pub mod Same
-pub mod Holding
-pub mod Tracking
-pub mod Tours
 pub mod Accumulating
 pub mod Starts
 pub mod Releasing

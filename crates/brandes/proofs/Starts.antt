@@ -12,12 +12,12 @@ use Rattle.regions.proofs.Parts.{part-long, part-at, part-list}
 use Rattle.graph.specs.Edges.{Graph}
 use Rattle.hops.specs.Hops.{unreached, dist, count}
 use Rattle.hops.specs.Search.{cells}
-use Rattle.brandes.specs.Order.{order, predecessors}
+use Rattle.predecessors.specs.Order.{order, predecessors}
 use Rattle.brandes.specs.Shares.{double, Sums, leave}
 use Rattle.brandes.specs.Steps.{heldPredecessors, leftBy, HeldEntries, AccumulatePre}
-use Rattle.brandes.specs.Tracks.{Traced}
-use Rattle.brandes.proofs.Predecessors.{entered-mem}
-use Rattle.brandes.proofs.Holding.{before-next}
+use Rattle.predecessors.specs.Tracks.{Traced}
+use Rattle.predecessors.proofs.Predecessors.{entered-mem}
+use Rattle.predecessors.proofs.Holding.{before-next}
 use Rattle.brandes.proofs.Accumulating.{SumsIn, all-held, all-front}
 
 -- a member of a list of values is one of them

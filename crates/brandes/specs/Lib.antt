@@ -1,4 +1,2 @@
-pub mod Order
 pub mod Shares
 pub mod Steps
-pub mod Tracks

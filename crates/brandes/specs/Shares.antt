@@ -1,11 +1,15 @@
--- Brandes' accumulation in doubles, each operation rounded once, in the Rust's order. Definitions only.
-use mathlib.Core.Bool.{cond}
-use mathlib.Core.List.{List, foldl}
-use Prim.Native.Nat.{ℕ}
+-- Brandes' accumulation in doubles, each operation rounded once, in the Rust's order, from one start and from all. Definitions only.
+use mathlib.Core.Bool.{Bool, false, cond, _||_}
+use mathlib.Core.List.{List, foldl, foldr}
+use Prim.Native.Nat.{ℕ, zero, suc}
 use lib.Dec.{eqb}
 use lib.IntN.{pos}
-use lib.ListN.{getD, set}
+use lib.ListN.{getD, set, replicate}
 use lib.Ieee.{Float, nan, binary64, ofBits, ofInt, add, mul, div}
+use Rattle.regions.specs.Region.{zeroF}
+use Rattle.graph.specs.Edges.{Graph}
+use Rattle.hops.specs.Hops.{count, exceeds}
+use Rattle.predecessors.specs.Order.{order, predecessors}
 
 -- 1.0
 abbrev pub one : Float
@@ -40,3 +44,23 @@ passed counts predecessors w delta =
 unfoldable pub leave : (ℕ → Float) → (ℕ → List ℕ) → ℕ → ℕ → Sums → Sums
 leave counts predecessors s w x =
     sums (passed counts predecessors w (x .delta)) (cond (eqb w s) (x .scores) (grow (x .scores) w (getD (x .delta) w nan)))
+
+-- ---- the starts
+
+-- the number of fewest hop sequences from s to v, as a double
+abbrev pub ways : Graph → ℕ → ℕ → Float
+ways g s v = double (count g s v)
+
+-- from one start s: delta is +0.0 at each node, then the nodes leave in reverse breadth-first order
+unfoldable pub fromStart : Graph → ℕ → List Float → Sums
+fromStart g s scores = foldr (leave (ways g s) (predecessors g s) s) (sums (replicate (g .nodes) zeroF) scores) (order g s)
+
+-- the scores after the starts 0 to k - 1
+unfoldable pub scoresAfter : Graph → ℕ → List Float
+scoresAfter g zero = replicate (g .nodes) zeroF
+scoresAfter g (suc k) = fromStart g k (scoresAfter g k) .scores
+
+-- PATHS: a path count from one of the starts 0 to k - 1 exceeds the limit
+unfoldable pub someExceeds : ℕ → Graph → ℕ → Bool
+someExceeds limit g zero = false
+someExceeds limit g (suc k) = someExceeds limit g k || exceeds limit g k

@@ -1,11 +1,11 @@
 -- Edge betweenness (Brandes 2001; graphina's betweenness.rs; document 01, "Edge betweenness"). Definitions only.
 use mathlib.Core.Bool.{Bool, true, false, cond, not, _&&_, _||_}
-use mathlib.Core.List.{List, foldr, map}
-use Prim.Native.Nat.{ℕ, zero, suc, _*_, _-_}
+use mathlib.Core.List.{List, map}
+use Prim.Native.Nat.{ℕ}
 use lib.Dec.{ltb}
-use lib.ListN.{length, replicate}
-use lib.Ieee.{Float, binary64, ofBits, mul, div}
-use Rattle.regions.specs.Region.{over, zeroF}
+use lib.ListN.{length}
+use lib.Ieee.{Float}
+use Rattle.regions.specs.Region.{over}
 use Rattle.graph.specs.declared.Answer.the-variants.{Paths}
 use Rattle.graph.specs.Answers.{Said, done}
 use Rattle.graph.specs.Edges.{Edge, Graph}
@@ -13,28 +13,8 @@ use Rattle.graph.specs.Given.{Given, graphIn}
 use Rattle.graph.specs.Refusals.{plainly}
 use Rattle.graph.specs.Left.{Left, wiped, unlessRefused, lateRefusal}
 use Rattle.hops.specs.Hops.{pathLimit}
-use Rattle.brandes.specs.Order.{order, predecessors}
-use Rattle.brandes.specs.Shares.{one, double}
-use Rattle.pairs.specs.Totals.{Totals, leaveBy}
-use Rattle.betweenness.specs.Betweenness.{ways, someExceeds}
-
--- from one start s: delta is +0.0 at each node, then the nodes leave in reverse breadth-first order
-unfoldable pub totalsFrom : Graph → ℕ → (ℕ → ℕ → Float) → Totals
-totalsFrom g s total = foldr (leaveBy (ways g s) (predecessors g s)) (record { delta = replicate (g .nodes) zeroF; total = total }) (order g s)
-
--- the totals after the starts 0 to k - 1
-unfoldable pub totalsAfter : Graph → ℕ → ℕ → ℕ → Float
-totalsAfter g zero a b = zeroF
-totalsAfter g (suc k) a b = totalsFrom g k (totalsAfter g k) .total a b
-
--- 2.0
-abbrev pub two : Float
-two = ofBits binary64 0x4000_0000_0000_0000
-
--- normalized and n > 1: times 1/(n(n-1)) directed, 2/(n(n-1)) undirected; else as it is
-unfoldable pub scaledTotal : ℕ → Bool → Bool → Float → Float
-scaledTotal n directed normalized x =
-    cond (normalized && ltb 1 n) (mul binary64 x (div binary64 (cond directed one two) (double (n * (n - 1))))) x
+use Rattle.brandes.specs.Shares.{someExceeds}
+use Rattle.crossings.specs.Totals.{totalsAfter, scaledTotal}
 
 -- the scaled total of the ordered pair (a, b)
 abbrev pub pairScore : Bool → Graph → ℕ → ℕ → Float

@@ -1,2 +1,2 @@
 pub mod Edges
-pub mod Crossings
+pub mod Steps

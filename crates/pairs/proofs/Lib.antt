@@ -1,12 +1,4 @@
-pub mod Across
-pub mod Crossing
 pub mod Cursors
-pub mod Entering
-pub mod Gap
 pub mod Numbering
 pub mod Numbers
-pub mod Pairing
-pub mod Passing
-pub mod Runs
-pub mod Tours
 pub mod Walking

@@ -13,11 +13,11 @@ use Rattle.graph.specs.Refusals.{firstOf, firstRefusal}
 use Rattle.graph.specs.Left.{left}
 use Rattle.hops.specs.Sum.{sumOver, same}
 use Rattle.hops.specs.Hops.{walks, seek, dist, count, exceedsBelow, exceeds}
-use Rattle.brandes.specs.Order.{holds, entriesOf, levels, copies, entered}
-use Rattle.brandes.specs.Shares.{passed, leave}
-use Rattle.betweenness.specs.Betweenness.{fromStart, scoresAfter, scaled, betweennessScores, someExceeds, betweennessOutcome}
-use Rattle.pairs.specs.Totals.{leaveBy}
-use Rattle.edge_betweenness.specs.Edges.{EdgeScores, edgeScores, totalsFrom, totalsAfter, scaledTotal, forwardScores, backScores, two, edgeBetweennessOutcome}
+use Rattle.predecessors.specs.Order.{holds, entriesOf, levels, copies, entered}
+use Rattle.brandes.specs.Shares.{passed, leave, fromStart, scoresAfter, someExceeds}
+use Rattle.betweenness.specs.Betweenness.{scaled, betweennessScores, betweennessOutcome}
+use Rattle.crossings.specs.Totals.{leaveBy, totalsFrom, totalsAfter, scaledTotal, two}
+use Rattle.edge_betweenness.specs.Edges.{EdgeScores, edgeScores, forwardScores, backScores, edgeBetweennessOutcome}
 
 -- 1.0 and 0.5
 abbrev one : Float

@@ -1,9 +1,9 @@
 -- `edge_betweenness::edge_betweenness` meets its contract: a refusal by its test, PATHS and the results by what the steps leave. Assumes nothing.
-use native.Mathlib.Omega.{arith}
+use mathlib.Core.Path.{_∙_}
 use Rattle.graph.specs.Given.{Given, given}
 use Rattle.graph.specs.Pres.{Passed}
 use Rattle.edge_betweenness.specs.Edges.{EdgeScores, edgeScores}
-use Rattle.edge_betweenness.proofs.EdgesEnding.{edgeTests, refused-edges, passed-edges, ready, prepare-pre, starts-asks, wipe-pre, ended-paths, write-asks, wipe-after, ended-done}
+use Rattle.edge_betweenness.proofs.EdgesEnding.{edgeTests, refused-edges, passed-edges, ready, score-asks, wipe-pre, ended-paths, ended-done}
 use borrow.Author.Needs.{needs}
 use Rattle.edge_betweenness.proofs.edge_betweenness.Statement.{statement}
 use Rattle.edge_betweenness.proofs.edge_betweenness.Tie as tie
@@ -31,60 +31,52 @@ refuses-requires : tie.Need-refuses-requires
 refuses-requires c κs = search needs
 
 returns : tie.Need-returns
-returns c =
-    let s = c .before .before .before .before .before .before .before .before .before .before .before .before in
-    refused-edges (here s) (c .before .before .before .edges-short .ensures) (c .before .before .plain-refusal .ensures) (c .before .refuses .ensures) (s .args .normalized) (c .if1 .taken)
+returns c = refused-edges (here (c .before .before .before .before .before .before .before .before .before .before .before .before)) (c .before .before .before .edges-short .ensures) (c .before .before .plain-refusal .ensures) (c .before .refuses .ensures) (c .before .before .before .before .before .before .before .before .before .before .before .before .args .normalized) (c .if1 .taken)
 
-prepare-pairs-requires : tie.Need-prepare-pairs-requires
-prepare-pairs-requires c κs = prepare-pre (here (start (c .before .before .before))) (ok (c .before .before .before))
-
-cross-starts-requires : tie.Need-cross-starts-requires
-cross-starts-requires c κs = starts-asks (here (start (c .before .before .before .before .before .before .before .before .before .before .before .before .before))) (ok (c .before .before .before .before .before .before .before .before .before .before .before .before .before)) (c .before .before .before .before .before .before .before .before .before .prepare-pairs .ensures)
+score-edges-requires : tie.Need-score-edges-requires
+score-edges-requires c κs = score-asks (here (start (c .before .before .before .before .before))) (ok (c .before .before .before .before .before))
 
 usual-fronts-requires : tie.Need-usual-fronts-requires
-usual-fronts-requires c κs = ready (here (start (c .before .before .before .before .before .before .before .before .before .before .before .before .before .before .before .before .before .before .before .before .before))) (ok (c .before .before .before .before .before .before .before .before .before .before .before .before .before .before .before .before .before .before .before .before .before)) .sound .limits
+usual-fronts-requires c κs = ready (here (start (c .before .before .before .before .before .before .before .before .before .before .before .before .before .before .before .before))) (ok (c .before .before .before .before .before .before .before .before .before .before .before .before .before .before .before .before)) .sound .limits
 
 wipe-requires : tie.Need-wipe-requires
-wipe-requires c κs = wipe-pre (here (start (c .before .before .before .before .before .before .before .before .before .before .before .before .before .before .before .before .before .before .before .before .before .before .before .before .before))) (ok (c .before .before .before .before .before .before .before .before .before .before .before .before .before .before .before .before .before .before .before .before .before .before .before .before .before)) (c .before .before .before .before .before .before .before .before .before .before .before .before .before .before .before .before .before .before .before .before .before .prepare-pairs .ensures) (c .before .before .before .before .before .before .before .before .before .before .before .cross-starts .ensures) (c .before .before .before .usual-fronts .ensures)
+wipe-requires c κs = wipe-pre (here (start (c .before .before .before .before .before .before .before .before .before .before .before .before .before .before .before .before .before .before .before .before))) (ok (c .before .before .before .before .before .before .before .before .before .before .before .before .before .before .before .before .before .before .before .before)) (c .before .before .before .before .before .before .before .before .before .before .before .before .before .before .score-edges .ensures) (c .before .before .before .usual-fronts .ensures)
 
 same-length : tie.Need-same-length
-same-length c = search needs
+same-length c = c .before .before .before .before .before .before .before .before .before .before .before .before .before .before .before .before .before .before .before .before .before .forward .given
 
 same-length-2 : tie.Need-same-length-2
-same-length-2 c = search needs
+same-length-2 c = c .before .before .before .before .before .before .before .before .before .before .before .before .before .before .before .before .before .before .before .back .given
 
 same-length-3 : tie.Need-same-length-3
-same-length-3 c = search needs
-
-returns-2 : tie.Need-returns-2
-returns-2 c = ended-paths (here (start (c .before .before .before .before .before .before .before .before .before .before .before .before .before .before .before .before .before .before .before .before .before .before .before .before .before .before .before .before .before .before .before .before))) (ok (c .before .before .before .before .before .before .before .before .before .before .before .before .before .before .before .before .before .before .before .before .before .before .before .before .before .before .before .before .before .before .before .before)) (c .before .before .before .before .before .before .before .before .before .before .before .before .before .before .before .before .before .before .before .before .before .before .before .before .before .before .before .before .prepare-pairs .ensures) (c .before .before .before .before .before .before .before .before .before .before .before .before .before .before .before .before .before .before .cross-starts .ensures) (c .before .before .before .before .before .before .before .before .before .before .usual-fronts .ensures) (start (c .before .before .before .before .before .before .before .before .before .before .before .before .before .before .before .before .before .before .before .before .before .before .before .before .before .before .before .before .before .before .before .before) .args .normalized) (c .before .before .before .before .before .before .wipe .ensures) (c .before .before .before .before .before .before .before .before .before .before .before .if2 .taken)
-
-write-edges-requires : tie.Need-write-edges-requires
-write-edges-requires c κs = write-asks (here (start (c .before .before .before .before .before .before .before .before .before .before .before .before .before .before .before .before .before .before .before .before .before .before .before .before .before))) (ok (c .before .before .before .before .before .before .before .before .before .before .before .before .before .before .before .before .before .before .before .before .before .before .before .before .before)) (c .before .before .before .before .before .before .before .before .before .before .before .before .before .before .before .before .before .before .before .before .before .prepare-pairs .ensures) (c .before .before .before .before .before .before .before .before .before .before .before .cross-starts .ensures) (c .before .before .before .before .if2 .left)
-
-usual-fronts-requires-2 : tie.Need-usual-fronts-requires-2
-usual-fronts-requires-2 c κs = ready (here (start (c .before .before .before .before .before .before .before .before .before .before .before .before .before .before .before .before .before .before .before .before .before .before .before .before .before .before .before .before .before .before .before .before .before .before))) (ok (c .before .before .before .before .before .before .before .before .before .before .before .before .before .before .before .before .before .before .before .before .before .before .before .before .before .before .before .before .before .before .before .before .before .before)) .sound .limits
-
-wipe-requires-2 : tie.Need-wipe-requires-2
-wipe-requires-2 c κs = wipe-after (here (start (c .before .before .before .before .before .before .before .before .before .before .before .before .before .before .before .before .before .before .before .before .before .before .before .before .before .before .before .before .before .before .before .before .before .before .before .before .before .before))) (ok (c .before .before .before .before .before .before .before .before .before .before .before .before .before .before .before .before .before .before .before .before .before .before .before .before .before .before .before .before .before .before .before .before .before .before .before .before .before .before)) (c .before .before .before .before .before .before .before .before .before .before .before .before .before .before .before .before .before .before .before .before .before .before .before .before .before .before .before .before .before .before .before .before .before .before .prepare-pairs .ensures) (c .before .before .before .before .before .before .before .before .before .before .before .before .before .before .before .before .before .before .before .before .before .before .before .before .cross-starts .ensures) (c .before .before .before .before .before .before .before .before .before .before .before .before .before .before .before .before .before .if2 .left) (start (c .before .before .before .before .before .before .before .before .before .before .before .before .before .before .before .before .before .before .before .before .before .before .before .before .before .before .before .before .before .before .before .before .before .before .before .before .before .before) .args .normalized) (c .before .before .before .before .before .before .before .before .before .before .before .before .write-edges .ensures) (c .before .before .before .usual-fronts2 .ensures)
+same-length-3 c = c .before .before .before .before .before .before .w322 .given ∙ c .before .before .before .before .before .before .before .before .before .before .before .before .before .before .before .before .before .w32 .given
 
 same-length-4 : tie.Need-same-length-4
-same-length-4 c = search needs
+same-length-4 c = c .before .before .before .before .w642 .given ∙ c .before .before .before .before .before .before .before .before .before .before .before .before .before .before .before .w64 .given
 
 same-length-5 : tie.Need-same-length-5
-same-length-5 c = search needs
+same-length-5 c = c .before .before .wf2 .given ∙ c .before .before .before .before .before .before .before .before .before .before .before .before .before .wf .given
+
+returns-2 : tie.Need-returns-2
+returns-2 c = ended-paths (here (start (c .before .before .before .before .before .before .before .before .before .before .before .before .before .before .before .before .before .before .before .before .before .before .before .before .before .before .before .before))) (ok (c .before .before .before .before .before .before .before .before .before .before .before .before .before .before .before .before .before .before .before .before .before .before .before .before .before .before .before .before)) (c .before .before .before .before .before .before .before .before .before .before .before .before .before .before .before .before .before .before .before .before .before .before .score-edges .ensures) (c .before .before .before .before .before .before .before .before .before .before .before .usual-fronts .ensures) (c .before .before .before .before .before .before .before .wipe .ensures) (c .if2 .taken)
 
 same-length-6 : tie.Need-same-length-6
-same-length-6 c = omega (arith, c .before .before .before .before .before .w325 .given, c .before .before .before .before .before .before .before .before .before .before .before .before .before .before .before .before .before .before .w324 .given, c .before .before .before .before .before .before .before .before .before .before .before .before .before .before .before .before .before .before .before .before .before .before .before .before .before .before .before .before .before .before .w322 .given, c .before .before .before .before .before .before .before .before .before .before .before .before .before .before .before .before .before .before .before .before .before .before .before .before .before .before .before .before .before .before .before .before .before .before .before .before .before .before .before .before .w32 .given)
+same-length-6 c = c .before .before .before .before .before .before .before .before .before .before .before .before .before .before .before .before .before .before .before .before .before .forward .given
 
 same-length-7 : tie.Need-same-length-7
-same-length-7 c = omega (arith, c .before .before .before .w644 .given, c .before .before .before .before .before .before .before .before .before .before .before .before .before .before .before .before .before .before .before .before .before .before .before .before .before .before .before .before .w642 .given, c .before .before .before .before .before .before .before .before .before .before .before .before .before .before .before .before .before .before .before .before .before .before .before .before .before .before .before .before .before .before .before .before .before .before .before .before .before .before .w64 .given)
+same-length-7 c = c .before .before .before .before .before .before .before .before .before .before .before .before .before .before .before .before .before .before .before .back .given
 
 same-length-8 : tie.Need-same-length-8
-same-length-8 c = omega (arith, c .before .wf5 .given, c .before .before .before .before .before .before .before .before .before .before .before .before .before .before .before .before .wf4 .given, c .before .before .before .before .before .before .before .before .before .before .before .before .before .before .before .before .before .before .before .before .before .before .before .before .before .before .wf2 .given, c .before .before .before .before .before .before .before .before .before .before .before .before .before .before .before .before .before .before .before .before .before .before .before .before .before .before .before .before .before .before .before .before .before .before .before .before .wf .given)
+same-length-8 c = c .before .before .before .before .before .before .w322 .given ∙ c .before .before .before .before .before .before .before .before .before .before .before .before .before .before .before .before .before .w32 .given
+
+same-length-9 : tie.Need-same-length-9
+same-length-9 c = c .before .before .before .before .w642 .given ∙ c .before .before .before .before .before .before .before .before .before .before .before .before .before .before .before .w64 .given
+
+same-length-10 : tie.Need-same-length-10
+same-length-10 c = c .before .before .wf2 .given ∙ c .before .before .before .before .before .before .before .before .before .before .before .before .before .wf .given
 
 returns-3 : tie.Need-returns-3
-returns-3 c = ended-done (here (start (c .before .before .before .before .before .before .before .before .before .before .before .before .before .before .before .before .before .before .before .before .before .before .before .before .before .before .before .before .before .before .before .before .before .before .before .before .before .before .before .before .before .before .before .before .before))) (ok (c .before .before .before .before .before .before .before .before .before .before .before .before .before .before .before .before .before .before .before .before .before .before .before .before .before .before .before .before .before .before .before .before .before .before .before .before .before .before .before .before .before .before .before .before .before)) (c .before .before .before .before .before .before .before .before .before .before .before .before .before .before .before .before .before .before .before .before .before .before .before .before .before .before .before .before .before .before .before .before .before .before .before .before .before .before .before .before .before .prepare-pairs .ensures) (c .before .before .before .before .before .before .before .before .before .before .before .before .before .before .before .before .before .before .before .before .before .before .before .before .before .before .before .before .before .before .before .cross-starts .ensures) (c .before .before .before .before .before .before .before .before .before .before .before .before .before .before .before .before .before .before .before .before .before .before .before .before .if2 .left) (start (c .before .before .before .before .before .before .before .before .before .before .before .before .before .before .before .before .before .before .before .before .before .before .before .before .before .before .before .before .before .before .before .before .before .before .before .before .before .before .before .before .before .before .before .before .before) .args .normalized) (c .before .before .before .before .before .before .before .before .before .before .before .before .before .before .before .before .before .before .before .write-edges .ensures) (c .before .before .before .before .before .before .before .before .before .before .usual-fronts2 .ensures) (c .before .before .before .before .before .before .wipe2 .ensures)
+returns-3 c = ended-done (here (start (c .before .before .before .before .before .before .before .before .before .before .before .before .before .before .before .before .before .before .before .before .before .before .before .before .before .before .before .before))) (ok (c .before .before .before .before .before .before .before .before .before .before .before .before .before .before .before .before .before .before .before .before .before .before .before .before .before .before .before .before)) (c .before .before .before .before .before .before .before .before .before .before .before .before .before .before .before .before .before .before .before .before .before .before .score-edges .ensures) (c .before .before .before .before .before .before .before .before .before .before .before .usual-fronts .ensures) (c .before .before .before .before .before .before .before .wipe .ensures) (c .if2 .left)
 
 pub edge-betweenness-spec : {M : Type 1} → statement M
 edge-betweenness-spec =
@@ -94,20 +86,18 @@ edge-betweenness-spec =
     plain-refusal-requires
     refuses-requires
     returns
-    prepare-pairs-requires
-    cross-starts-requires
+    score-edges-requires
     usual-fronts-requires
     wipe-requires
     same-length
     same-length-2
     same-length-3
-    returns-2
-    write-edges-requires
-    usual-fronts-requires-2
-    wipe-requires-2
     same-length-4
     same-length-5
+    returns-2
     same-length-6
     same-length-7
     same-length-8
+    same-length-9
+    same-length-10
     returns-3)

@@ -1,0 +1,5 @@
+pub mod Entering
+pub mod Gap
+pub mod Pairing
+pub mod Runs
+pub mod Tours

@@ -1,0 +1,4 @@
+pub mod Numbering
+pub mod Crossing
+pub mod Pairing
+pub mod Totalling
