@@ -1,4 +1,3 @@
-pub mod Voting
 pub mod Polling
 pub mod Closing
 pub mod Order

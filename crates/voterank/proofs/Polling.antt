@@ -16,9 +16,11 @@ use Rattle.regions.proofs.Frames.{frame-front, frame-then}
 use Rattle.roots.specs.Maximum.{maxOf}
 use Rattle.graph.specs.Edges.{edgesOf, Graph, entries}
 use Rattle.rows.specs.Rows.{rowAt, RowsFit}
-use Rattle.voterank.specs.VoteRank.{Poll, poll, votes, listed, pollScore, firstHighest, winner, weaker, electing, elections}
-use Rattle.voterank.specs.Elections.{Tallied, TallyPre, SilencePre, Silenced, WeakenPre, weakened, pollAt, graphFrom, ElectPre, Held}
-use Rattle.voterank.proofs.Voting.{votes-same, highest-same}
+use Rattle.voterank.specs.VoteRank.{Poll, poll, pollScore, winner, electing, elections}
+use Rattle.polls.specs.Votes.{votes, listed, firstHighest, weaker}
+use Rattle.voterank.specs.Elections.{pollAt, graphFrom, ElectPre, Held}
+use Rattle.polls.specs.Steps.{Tallied, TallyPre, SilencePre, Silenced, WeakenPre, weakened}
+use Rattle.polls.proofs.Voting.{votes-same, highest-same}
 
 -- ---- the front of a list
 take-set : (n : ℕ) (w : List Float) (u : ℕ) (x : Float) → u < n → take n (set w u x) ≡ set (take n w) u x

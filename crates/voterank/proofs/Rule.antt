@@ -20,8 +20,9 @@ use Rattle.graph.specs.Given.{Given, graphIn}
 use Rattle.graph.specs.Pres.{Sound}
 use Rattle.hops.specs.Hops.{EndsIn}
 use Rattle.hops.proofs.Workspace.{valid}
-use Rattle.voterank.specs.VoteRank.{oneF, Poll, poll, abilityOf, opening, gains, votes, listed, pollScore, firstHighest, winner, weaker, electing, elections, decayOf, seatsOf, closing}
-use Rattle.voterank.proofs.Voting.{highest-among}
+use Rattle.voterank.specs.VoteRank.{oneF, Poll, poll, abilityOf, opening, pollScore, winner, electing, elections, decayOf, seatsOf, closing}
+use Rattle.polls.specs.Votes.{gains, votes, listed, firstHighest, weaker}
+use Rattle.polls.proofs.Voting.{highest-among}
 use Rattle.voterank.proofs.Order.{fine, zero-fine, one-fine, fine-cond, fine-add, fine-max, one-way, not-above, not-below}
 
 -- ---- the first highest

@@ -1,18 +1,18 @@
 -- VoteRank: the election rule (document 01, "VoteRank"; Zhang et al.; graphina's other.rs). Definitions only.
-use mathlib.Core.Bool.{Bool, true, false, not, _&&_, _||_, cond}
+use mathlib.Core.Bool.{Bool, true, false, cond}
 use mathlib.Core.List.{List, [], _∷_, _++_, foldl}
 use Prim.Native.Nat.{ℕ, zero, suc, _*_, _-_, min}
-use lib.Dec.{eqb, ltb}
+use lib.Dec.{ltb}
 use lib.IntN.{pos}
 use lib.ListN.{length, getD, set, replicate}
-use lib.Ieee.{Float, binary64, nan, ofBits, ofInt, add, sub, div, lt}
+use lib.Ieee.{Float, binary64, nan, ofBits, ofInt, div, lt}
 use Rattle.regions.specs.Region.{zeroF, over}
-use Rattle.roots.specs.Maximum.{maxOf}
 use Rattle.graph.specs.Answers.{Said, done}
-use Rattle.graph.specs.Edges.{Edge, Graph, entries}
+use Rattle.graph.specs.Edges.{Graph, entries}
 use Rattle.graph.specs.Given.{Given, graphIn}
 use Rattle.graph.specs.Left.{Left, wiped, unlessRefused}
 use Rattle.graph.specs.Refusals.{plainly}
+use Rattle.polls.specs.Votes.{votes, listed, firstHighest, weaker}
 
 -- 1.0
 abbrev pub oneF : Float
@@ -50,37 +50,13 @@ abilityOf p v = getD (p .ability) v nan
 abbrev pub opening : ℕ → Poll
 opening n = poll (replicate n oneF) []
 
--- what v has after one edge more: from gains to's ability, undirected also the reverse
-abbrev pub gains : Bool → (ℕ → Float) → ℕ → Float → Edge → Float
-gains directed ability v sum e =
-    let first = cond (eqb (e .from) v) (add binary64 sum (ability (e .to))) sum in
-    cond (not directed && eqb (e .to) v) (add binary64 first (ability (e .from))) first
-
--- the votes for v: the edges in list order, self-loops included
-unfoldable pub votes : Bool → (ℕ → Float) → List Edge → ℕ → Float
-votes directed ability es v = foldl (gains directed ability v) zeroF es
-
--- v stands in the list
-unfoldable pub listed : ℕ → List ℕ → Bool
-listed v [] = false
-listed v (x ∷ xs) = eqb x v || listed v xs
-
 -- the score of v: its votes, and 0 for one who has been elected
 unfoldable pub pollScore : Graph → Poll → ℕ → Float
 pollScore g p v = cond (listed v (p .elected)) zeroF (votes (g .directed) (abilityOf p) (g .edges) v)
 
--- of the nodes 0 to k the first with the highest score
-unfoldable pub firstHighest : (ℕ → Float) → ℕ → ℕ
-firstHighest score zero = 0
-firstHighest score (suc k) = let b = firstHighest score k in cond (lt (score b) (score (suc k))) (suc k) b
-
 -- who would be elected
 unfoldable pub winner : Graph → Poll → ℕ
 winner g p = firstHighest (pollScore g p) (g .nodes - 1)
-
--- an entry u of the elected node's row loses the decay, not below 0
-abbrev pub weaker : Float → List Float → ℕ → List Float
-weaker decay a u = set a u (maxOf (sub binary64 (getD a u nan) decay) zeroF)
 
 -- v is elected: its ability becomes 0, and each of its neighbour entries loses the decay, once for each parallel one
 unfoldable pub electing : Graph → Float → Poll → ℕ → Poll

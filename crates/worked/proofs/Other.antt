@@ -19,7 +19,8 @@ use Rattle.laplacian.specs.Laplacian.{laplacianScore, laplacianScores, laplacia
 use Rattle.hops.specs.Sum.{sumOver, below, same}
 use Rattle.hops.specs.Hops.{walks, seek, dist}
 use Rattle.reaching.specs.Reaching.{othersIn, reachScore, reachingOutcome}
-use Rattle.voterank.specs.VoteRank.{decayOf, votes, listed, pollScore, firstHighest, winner, electing, elections, closing, voterankOutcome}
+use Rattle.voterank.specs.VoteRank.{decayOf, pollScore, winner, electing, elections, closing, voterankOutcome}
+use Rattle.polls.specs.Votes.{votes, listed, firstHighest}
 
 abbrev float : ℕ → Float
 float bits = ofBits binary64 bits

@@ -1,7 +1,7 @@
 -- `voterank::higher` meets its contract. Assumes nothing.
 use borrow.Author.Needs.{needs}
-use Rattle.voterank.proofs.higher.Statement.{statement}
-use Rattle.voterank.proofs.higher.Tie as tie
+use Rattle.polls.proofs.higher.Statement.{statement}
+use Rattle.polls.proofs.higher.Tie as tie
 
 add-if1 : tie.Need-add-if1
 add-if1 c = search needs

@@ -4,11 +4,11 @@ use mathlib.Core.Path.{_≡_}
 use native.Mathlib.Omega.{arith}
 use lib.ListN.{length, getD}
 use lib.Ieee.{ofBits}
-use Rattle.voterank.specs.Elections.{Silenced}
-use Rattle.voterank.proofs.Voting.{silenced-none, silenced-more}
+use Rattle.polls.specs.Steps.{Silenced}
+use Rattle.polls.proofs.Voting.{silenced-none, silenced-more}
 use borrow.Author.Needs.{needs}
-use Rattle.voterank.proofs.silence.Statement.{statement}
-use Rattle.voterank.proofs.silence.Tie as tie
+use Rattle.polls.proofs.silence.Statement.{statement}
+use Rattle.polls.proofs.silence.Tie as tie
 
 abbrev Inv-loop : tie.InvT-loop
 Inv-loop nodes k elected w₀ i₀ w i = (i ≤ k) × Silenced nodes i elected w₀ w

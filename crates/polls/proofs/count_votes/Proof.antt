@@ -2,10 +2,10 @@
 use Prim.Native.Nat.{_-_}
 use native.Mathlib.Omega.{arith}
 use lib.ListN.{length}
-use Rattle.voterank.proofs.Voting.{Voting, voting-none, vote-pre, voting-more, voting-all}
+use Rattle.polls.proofs.Voting.{Voting, voting-none, vote-pre, voting-more, voting-all}
 use borrow.Author.Needs.{needs}
-use Rattle.voterank.proofs.count_votes.Statement.{statement}
-use Rattle.voterank.proofs.count_votes.Tie as tie
+use Rattle.polls.proofs.count_votes.Statement.{statement}
+use Rattle.polls.proofs.count_votes.Tie as tie
 
 abbrev Inv-loop : tie.InvT-loop
 Inv-loop nodes directed from to weight w₀ i₀ w i = Voting nodes directed from to weight w₀ i w

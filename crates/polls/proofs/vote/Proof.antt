@@ -1,10 +1,10 @@
 -- `voterank::vote` meets its contract. Assumes nothing.
 use native.Mathlib.Omega.{arith}
 use lib.ListN.{length-set}
-use Rattle.voterank.specs.Elections.{voted}
+use Rattle.polls.specs.Steps.{voted}
 use borrow.Author.Needs.{needs}
-use Rattle.voterank.proofs.vote.Statement.{statement}
-use Rattle.voterank.proofs.vote.Tie as tie
+use Rattle.polls.proofs.vote.Statement.{statement}
+use Rattle.polls.proofs.vote.Tie as tie
 
 add-w : tie.Need-add-w
 add-w c = search needs

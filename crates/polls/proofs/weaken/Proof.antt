@@ -5,10 +5,10 @@ use lib.ListN.{length, set, length-set}
 use lib.Ieee.{ofBits}
 use Rattle.regions.specs.Region.{zeroF}
 use Rattle.rows.specs.Rows.{rowAt}
-use Rattle.voterank.specs.Elections.{weakened}
-use Rattle.voterank.proofs.Voting.{weaker-long}
-use Rattle.voterank.proofs.weaken.Statement.{statement}
-use Rattle.voterank.proofs.weaken.Tie as tie
+use Rattle.polls.specs.Steps.{weakened}
+use Rattle.polls.proofs.Voting.{weaker-long}
+use Rattle.polls.proofs.weaken.Statement.{statement}
+use Rattle.polls.proofs.weaken.Tie as tie
 
 mul-w : tie.Need-mul-w
 mul-w c = search needs

@@ -3,9 +3,9 @@ use mathlib.Core.Path.{_≡_, _∙_}
 use native.Mathlib.Omega.{arith}
 use borrow.Author.Needs.{needs}
 use lib.Ieee.{ofBits}
-use Rattle.voterank.proofs.Voting.{tally-clear, tally-all}
-use Rattle.voterank.proofs.tally.Statement.{statement}
-use Rattle.voterank.proofs.tally.Tie as tie
+use Rattle.polls.proofs.Voting.{tally-clear, tally-all}
+use Rattle.polls.proofs.tally.Statement.{statement}
+use Rattle.polls.proofs.tally.Tie as tie
 
 fillf-requires : tie.Need-fillf-requires
 fillf-requires c κs = omega (arith, c .before .before .before .before .before .pre .room)

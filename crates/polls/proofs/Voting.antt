@@ -19,8 +19,8 @@ use Rattle.roots.specs.Maximum.{maxOf}
 use Rattle.graph.specs.Edges.{Edge, edge, edgesFrom, edgesOf}
 use Rattle.graph.specs.Pres.{Sized, Inside}
 use Rattle.graph.proofs.Edges.{edges-long, edges-at, noEdge}
-use Rattle.voterank.specs.VoteRank.{gains, votes, listed, firstHighest, weaker}
-use Rattle.voterank.specs.Elections.{VotePre, gained, voted, TallyPre, CountPre, Tallied, SilencePre, Silenced}
+use Rattle.polls.specs.Votes.{gains, votes, listed, firstHighest, weaker}
+use Rattle.polls.specs.Steps.{VotePre, gained, voted, TallyPre, CountPre, Tallied, SilencePre, Silenced}
 
 -- ---- one edge
 module _ (n : ℕ) (w : List Float) (room : 2 * n ≤ length w) where

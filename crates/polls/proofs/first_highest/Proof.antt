@@ -4,11 +4,11 @@ use Prim.Native.Nat.{ℕ, _+_, _≤_, _-_}
 use native.Mathlib.Omega.{arith}
 use lib.ListN.{getD}
 use lib.Ieee.{Float, nan}
-use Rattle.voterank.specs.VoteRank.{firstHighest}
-use Rattle.voterank.proofs.Voting.{highest-none, highest-more, highest-among}
+use Rattle.polls.specs.Votes.{firstHighest}
+use Rattle.polls.proofs.Voting.{highest-none, highest-more, highest-among}
 use borrow.Author.Needs.{needs}
-use Rattle.voterank.proofs.first_highest.Statement.{statement}
-use Rattle.voterank.proofs.first_highest.Tie as tie
+use Rattle.polls.proofs.first_highest.Statement.{statement}
+use Rattle.polls.proofs.first_highest.Tie as tie
 
 abbrev Inv-loop : tie.InvT-loop
 Inv-loop nodes w best₀ v₀ best v = (v ≤ nodes - 1) × (best ≡ firstHighest (λ u. getD w (nodes + u) nan) v)

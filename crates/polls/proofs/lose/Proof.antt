@@ -7,11 +7,11 @@ use lib.ListN.{length, getD, take, length-set}
 use lib.Seq.{take-all}
 use lib.Ieee.{Float, ofBits}
 use Rattle.rows.specs.Rows.{rowAt}
-use Rattle.voterank.specs.VoteRank.{weaker}
-use Rattle.voterank.proofs.Voting.{weaker-more}
+use Rattle.polls.specs.Votes.{weaker}
+use Rattle.polls.proofs.Voting.{weaker-more}
 use borrow.Author.Needs.{needs}
-use Rattle.voterank.proofs.lose.Statement.{statement}
-use Rattle.voterank.proofs.lose.Tie as tie
+use Rattle.polls.proofs.lose.Statement.{statement}
+use Rattle.polls.proofs.lose.Tie as tie
 
 abbrev Inv-loop : tie.InvT-loop
 Inv-loop nodes decay v rows w₀ entries k₀ w k = (k ≤ length (rowAt nodes rows v)) × (length w ≡ length w₀) × (w ≡ foldl (weaker decay) w₀ (take k (rowAt nodes rows v)))
