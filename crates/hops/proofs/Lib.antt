@@ -10,5 +10,4 @@ pub mod Search
 pub mod Workspace
 pub mod Limits
 pub mod Scans
-pub mod Runs
 pub mod Forgetting

@@ -69,7 +69,7 @@ fn search(nodes: usize, edges: usize, start: usize, w: &mut [u32], c: &mut [u64]
     let queue = 2 * nodes + 1 + 4 * edges;
     regions::fill32(w, distances, nodes, hops::UNREACHED);
     regions::fill64(c, 0, nodes, 0);
-    hops::search_from(nodes, start, hops::PATH_LIMIT, distances, queue, w, c)
+    search::search_from(nodes, start, hops::PATH_LIMIT, distances, queue, w, c)
 }
 
 // The results, unless a count exceeds the limit.

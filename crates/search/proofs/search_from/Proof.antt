@@ -1,7 +1,7 @@
 -- `hops::search_from` meets its contract: the start alone in the queue is where the visits begin. Assumes nothing.
 use Rattle.hops.proofs.Search.{begin-pre, begun-kept, kept-then, first}
-use Rattle.hops.proofs.search_from.Statement.{statement}
-use Rattle.hops.proofs.search_from.Tie as tie
+use Rattle.search.proofs.search_from.Statement.{statement}
+use Rattle.search.proofs.search_from.Tie as tie
 
 begin-requires : tie.Need-begin-requires
 begin-requires c κs = begin-pre (c .before .before .before .before .pre .space)

@@ -5,11 +5,11 @@ use Prim.Native.Nat.{ℕ, _+_, _-_}
 use native.Mathlib.Omega.{arith}
 use lib.ListN.{getD}
 use Rattle.graph.specs.Edges.{Edge}
 use Rattle.hops.specs.Search.{graphOf, Search}
-use Rattle.hops.proofs.Runs.{Run, run-none, run-visiting, run-kept, run-step, run-paths}
+use Rattle.search.proofs.Runs.{Run, run-none, run-visiting, run-kept, run-step, run-paths}
 use borrow.Author.Needs.{needs}
-use Rattle.hops.proofs.search_on.Statement.{statement}
-use Rattle.hops.proofs.search_on.Tie as tie
+use Rattle.search.proofs.search_on.Statement.{statement}
+use Rattle.search.proofs.search_on.Tie as tie
 
 abbrev Inv-loop : tie.InvT-loop
 Inv-loop nodes limit distances queue w₀ counts₀ head₀ tail₀ w counts head tail =

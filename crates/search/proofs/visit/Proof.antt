@@ -6,11 +6,11 @@ use Prim.Native.Nat.{ℕ, _+_, _-_}
 use native.Mathlib.Omega.{arith}
 use lib.ListN.{getD}
 use Rattle.graph.specs.Edges.{Edge}
 use Rattle.hops.specs.Search.{graphOf, Search}
 use Rattle.hops.proofs.Scans.{Scan, begun, grown-most, scan-none, in-rows, scan-pre, scan-kept, scan-step, scan-paths, place-fits, scan-done}
 use borrow.Author.Needs.{needs}
-use Rattle.hops.proofs.visit.Statement.{statement}
-use Rattle.hops.proofs.visit.Tie as tie
+use Rattle.search.proofs.visit.Statement.{statement}
+use Rattle.search.proofs.visit.Tie as tie
 
 abbrev Inv-loop : tie.InvT-loop
 Inv-loop nodes limit distances queue head tail w₀ counts₀ u further ways rows end p₀ place₀ w counts p place =
