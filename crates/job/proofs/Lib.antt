@@ -1,4 +1,3 @@
-pub mod Fronts
 pub mod Texts
 pub mod Suffices
 pub mod Unique

@@ -17,9 +17,11 @@ use Rattle.reader.specs.declared.Job.the-variants.{Asked, Fault}
 use Rattle.reader.specs.Edges.{Given, fromOf, toOf, bitsOf}
 use Rattle.reader.specs.Job.{jobOf, edgesOf}
 use Rattle.reply.specs.Reply.{refusalText}
-use Rattle.measures.specs.Scored.{outputRoom}
-use Rattle.measures.proofs.Suffices.{refused, measure-fits}
-use Rattle.job.specs.Run.{inputLimit, onZeros, doubles, headAnswer, jobAnswer, answerOf, saidRan, RunLeft, runLeft, runOutcome}
+use Rattle.outcomes.specs.Texts.{outputRoom}
+use Rattle.outcomes.proofs.Fits.{refused}
+use Rattle.scoring.specs.Scored.{onZeros, doubles}
+use Rattle.scoring.proofs.Suffices.{measure-fits}
+use Rattle.job.specs.Run.{inputLimit, headAnswer, jobAnswer, answerOf, saidRan, RunLeft, runLeft, runOutcome}
 use Rattle.job.specs.declared.Ran.{Ran}
 use Rattle.job.specs.declared.Ran.the-variants.{Written}
 

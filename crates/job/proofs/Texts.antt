@@ -5,8 +5,7 @@ use mathlib.Core.Bool.{Bool, true, false, cond}
 use mathlib.Core.List.{List, map}
 use Prim.Native.Nat.{ℕ, _≤_, _<_}
 use native.Mathlib.Omega.{arith}
-use lib.ListN.{length}
-use lib.Ieee.{Float}
+use lib.ListN.{length, take, length-take}
 use lib.Dec.{ltb}
 use borrow.Author.Tests.{lt-ltb, le-ltb, ltb-false}
 use Rattle.text.specs.Written.{Written}
@@ -19,12 +18,17 @@ use Rattle.reader.specs.declared.Job.the-variants.{Asked, Fault}
 use Rattle.reader.specs.Edges.{fromOf, toOf, bitsOf}
 use Rattle.reader.specs.Job.{jobOf, edgesOf}
 use Rattle.reply.specs.Reply.{refusalText}
-use Rattle.measures.specs.Scored.{scoredText, outputRoom}
-use Rattle.job.specs.Run.{inputLimit, runLeft, runOutcome, onZeros, doubles, headAnswer, answerOf}
+use Rattle.outcomes.specs.Texts.{outputRoom}
+use Rattle.scoring.specs.Scored.{scoredText, onZeros, doubles}
+use Rattle.job.specs.Run.{inputLimit, runLeft, runOutcome, headAnswer, answerOf}
 
 -- the same text, written
 pub as-written : {text text′ before after : List ℕ} {r : ℕ} → text ≡ text′ → Written text′ before 0 after r → Written text before 0 after r
 as-written e w = rw e w
+
+-- no more edges are taken than a job may have
+pub taken-few : (m : ℕ) (bits : List ℕ) → m ≤ jobEdgeLimit → length (take m bits) ≤ jobEdgeLimit
+taken-few m bits h = omega (arith, length-take m bits)
 
 module _ (head : Head) (from to bits : List ℕ) where
   pub too-many-nodes : jobNodeLimit < head .top .nodes → headAnswer head from to bits ≡ refusalText (numberOf Size) 0
@@ -35,9 +39,9 @@ module _ (head : Head) (from to bits : List ℕ) where
   unfolding headAnswer
   too-many-edges h k = rw (le-ltb jobNodeLimit (head .top .nodes) h, lt-ltb jobEdgeLimit (head .edges) k)
 
-  pub of-measure : {weights : List Float} → head .top .nodes ≤ jobNodeLimit → head .edges ≤ jobEdgeLimit → weights ≡ doubles bits → headAnswer head from to bits ≡ scoredText (head .measure) (head .top) (onZeros from to weights)
+  pub of-measure : head .top .nodes ≤ jobNodeLimit → head .edges ≤ jobEdgeLimit → headAnswer head from to bits ≡ scoredText (head .measure) (head .top) (onZeros from to (doubles bits))
   unfolding headAnswer
-  of-measure h k e = rw (le-ltb jobNodeLimit (head .top .nodes) h, le-ltb jobEdgeLimit (head .edges) k, e)
+  of-measure h k = rw (le-ltb jobNodeLimit (head .top .nodes) h, le-ltb jobEdgeLimit (head .edges) k)
 
 -- edges beyond the program's limit do not matter
 pub same-answer : (head : Head) {from to bits from′ to′ bits′ : List ℕ} → (head .edges ≤ jobEdgeLimit → (from ≡ from′) × (to ≡ to′) × (bits ≡ bits′)) → headAnswer head from to bits ≡ headAnswer head from′ to′ bits′

@@ -4,10 +4,8 @@ use mathlib.Core.Bool.{cond}
 use mathlib.Core.List.{List, map}
 use Prim.Native.Nat.{ℕ}
 use lib.Dec.{ltb}
-use lib.ListN.{length, replicate}
+use lib.ListN.{length}
 use lib.Seq.{sets}
-use lib.Ieee.{Float, binary64, ofBits}
-use Rattle.regions.specs.Region.{zeroF}
 use Rattle.graph.specs.declared.Answer.the-variants.{Size, Room, Text}
 use Rattle.graph.specs.Answers.{Said, done, refusedWith, numberOf}
 use Rattle.graph.specs.Settings.{jobNodeLimit, jobEdgeLimit}
@@ -19,30 +17,12 @@ use Rattle.reader.specs.Job.{jobOf, edgesOf}
 use Rattle.reply.specs.Reply.{refusalText}
 use Rattle.job.specs.declared.Ran.{Ran}
 use Rattle.job.specs.declared.Ran.the-variants.{Written, Refused}
-use Rattle.measures.specs.Scored.{Lent, lent, scoredText, outputRoom}
+use Rattle.outcomes.specs.Texts.{outputRoom}
+use Rattle.scoring.specs.Scored.{scoredText, onZeros, doubles}
 
 -- the most bytes of a job text
 abbrev pub inputLimit : ℕ
 inputLimit = 49152
-
--- the numbers of a workspace for the most nodes and edges: 8n+8m+8, 2n and 6n+4m
-abbrev pub narrowRoom : ℕ
-narrowRoom = 12296
-
-abbrev pub wideRoom : ℕ
-wideRoom = 1024
-
-abbrev pub floatRoom : ℕ
-floatRoom = 7168
-
--- slots for the results and a workspace, all of them zero, beside a graph
-unfoldable pub onZeros : List ℕ → List ℕ → List Float → Lent
-onZeros from to weight =
-    lent from to weight (replicate jobNodeLimit zeroF) (replicate jobNodeLimit 0) (replicate narrowRoom 0) (replicate wideRoom 0) (replicate floatRoom zeroF)
-
--- the double of each pattern
-abbrev pub doubles : List ℕ → List Float
-doubles bits = map (ofBits binary64) bits
 
 -- the text of a job without a fault, whose edges are given as ends and bits: SIZE above the program's limits, then the measure's
 unfoldable pub headAnswer : Head → List ℕ → List ℕ → List ℕ → List ℕ

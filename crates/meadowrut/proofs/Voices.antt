@@ -7,8 +7,8 @@ use Rattle.graph.specs.Answers.{Said}
 use Rattle.graph.specs.Left.{Left, left}
 use Rattle.graph.proofs.Left.{no-second}
 use Rattle.job.specs.Run.{RunLeft, runLeft}
-use Rattle.meadowrut.specs.declared.Text.{Text}
-use Rattle.meadowrut.specs.Boundary.{voiced, written, runVoiced}
+use Rattle.boundary.specs.declared.Text.{Text}
+use Rattle.boundary.specs.Boundary.{voiced, written, runVoiced}
 
 pub voiced-by : {A B R : Type 0} (f : A → B) {o : Left A R} {a : A} {b : B} {r : R} {w32 w64 : List ℕ} {wf : List Float}
     → b ≡ f a → left a r w32 w64 wf ≡ o → left b r w32 w64 wf ≡ voiced f o

@@ -5,7 +5,6 @@ ghost use mathlib.Core.List.{[]};
 ghost use Rattle.roots.specs.Root.{sqrtOf, SquareRoot};
 ghost use Rattle.roots.specs.Absolute.{absOf};
 ghost use Rattle.roots.specs.Maximum.{maxOf};
-ghost use Rattle.graph.specs.Answers.{done, refusedWith, saidEnded, saidElected};
 ghost use Rattle.graph.specs.Settings.{usualSettings};
 ghost use Rattle.graph.specs.Given.{given};
 ghost use Rattle.graph.specs.Given.{given as lent};
@@ -21,44 +20,12 @@ ghost use Rattle.pagerank.specs.PageRank.{pagerankOutcome};
 ghost use Rattle.personalized_pagerank.specs.Personalized.{personalizedOutcome};
 ghost use Rattle.eigenvector.specs.Eigenvector.{eigenOutcome};
 ghost use Rattle.katz.specs.Katz.{katzOutcome};
-ghost use Rattle.job.specs.Run.{saidRan, runOutcome};
-ghost use Rattle.meadowrut.specs.Boundary.{raised, asked, returned, reported, counted, written, runVoiced, voiced, asNumber};
-use graph::Answer;
-use graph::Elected;
-use graph::Ended;
-use graph::Rounds;
-use job::Ran;
-
-// What the iterative calls are asked.
-#[repr(C)]
-pub struct Settings {
-    pub damping: f64,
-    pub tolerance: f64,
-    pub limit: u64,
-}
-
-// What an iterative call says.
-#[repr(C)]
-pub struct Report {
-    pub answer: u32,
-    pub settled: u32,
-    pub rounds: u64,
-    pub settings: Settings,
-}
-
-// What an election says.
-#[repr(C)]
-pub struct Election {
-    pub answer: u32,
-    pub elected: usize,
-}
-
-// What an answered job text says: how many bytes were written.
-#[repr(C)]
-pub struct Text {
-    pub answer: u32,
-    pub length: usize,
-}
+ghost use Rattle.job.specs.Run.{runOutcome};
+ghost use Rattle.boundary.specs.Boundary.{raised, asked, returned, reported, counted, runVoiced, voiced};
+use boundary::Election;
+use boundary::Report;
+use boundary::Settings;
+use boundary::Text;
 
 #[no_mangle]
 pub extern "C" fn meadowrut_sqrt(x: f64) -> f64
@@ -336,7 +303,7 @@ pub extern "C" fn meadowrut_voterank(
         w64,
         wf,
     );
-    election_of(said)
+    boundary::election_of(said)
 }
 
 #[no_mangle]
@@ -356,7 +323,7 @@ pub extern "C" fn meadowrut_pagerank(
 ) -> Report
     ensures { λ r. ⌜ left r (now (scores .exit)) (now (w32 .exit)) (now (w64 .exit)) (now (wf .exit)) ≡ voiced reported (pagerankOutcome (asked settings) (raised given) (now (start .entry)) (lent nodes (raised directed) (now (from .entry)) (now (to .entry)) (now (weight .entry)) (now (scores .entry)) (now (w32 .entry)) (now (w64 .entry)) (now (wf .entry)))) ⌝ }
 {
-    let asked = settings_of(settings);
+    let asked = boundary::settings_of(settings);
     let ended = pagerank::pagerank(
         nodes,
         directed != 0,
@@ -371,7 +338,7 @@ pub extern "C" fn meadowrut_pagerank(
         w64,
         wf,
     );
-    report_of(ended)
+    boundary::report_of(ended)
 }
 
 #[no_mangle]
@@ -391,7 +358,7 @@ pub extern "C" fn meadowrut_personalized_pagerank(
 ) -> Report
     ensures { λ r. ⌜ left r (now (scores .exit)) (now (w32 .exit)) (now (w64 .exit)) (now (wf .exit)) ≡ voiced reported (personalizedOutcome (asked settings) (raised given) (now (personalization .entry)) (lent nodes (raised directed) (now (from .entry)) (now (to .entry)) (now (weight .entry)) (now (scores .entry)) (now (w32 .entry)) (now (w64 .entry)) (now (wf .entry)))) ⌝ }
 {
-    let asked = settings_of(settings);
+    let asked = boundary::settings_of(settings);
     let ended = personalized_pagerank::personalized_pagerank(
         nodes,
         directed != 0,
@@ -406,7 +373,7 @@ pub extern "C" fn meadowrut_personalized_pagerank(
         w64,
         wf,
     );
-    report_of(ended)
+    boundary::report_of(ended)
 }
 
 #[no_mangle]
@@ -424,7 +391,7 @@ pub extern "C" fn meadowrut_eigenvector(
 ) -> Report
     ensures { λ r. ⌜ left r (now (scores .exit)) (now (w32 .exit)) (now (w64 .exit)) (now (wf .exit)) ≡ voiced reported (eigenOutcome (asked settings) (lent nodes (raised directed) (now (from .entry)) (now (to .entry)) (now (weight .entry)) (now (scores .entry)) (now (w32 .entry)) (now (w64 .entry)) (now (wf .entry)))) ⌝ }
 {
-    let asked = settings_of(settings);
+    let asked = boundary::settings_of(settings);
     let ended = eigenvector::eigenvector(
         nodes,
         directed != 0,
@@ -437,7 +404,7 @@ pub extern "C" fn meadowrut_eigenvector(
         w64,
         wf,
     );
-    report_of(ended)
+    boundary::report_of(ended)
 }
 
 #[no_mangle]
@@ -457,7 +424,7 @@ pub extern "C" fn meadowrut_katz(
 ) -> Report
     ensures { λ r. ⌜ left r (now (scores .exit)) (now (w32 .exit)) (now (w64 .exit)) (now (wf .exit)) ≡ voiced reported (katzOutcome (asked settings) (raised given) (now (beta .entry)) (lent nodes (raised directed) (now (from .entry)) (now (to .entry)) (now (weight .entry)) (now (scores .entry)) (now (w32 .entry)) (now (w64 .entry)) (now (wf .entry)))) ⌝ }
 {
-    let asked = settings_of(settings);
+    let asked = boundary::settings_of(settings);
     let ended = katz::katz(
         nodes,
         directed != 0,
@@ -472,112 +439,12 @@ pub extern "C" fn meadowrut_katz(
         w64,
         wf,
     );
-    report_of(ended)
+    boundary::report_of(ended)
 }
 
 #[no_mangle]
 pub extern "C" fn meadowrut_run(input: &[u8], output: &mut [u8]) -> Text
     ensures { λ r. ⌜ left r (now (output .exit)) [] [] [] ≡ runVoiced (runOutcome (now (input .entry)) (now (output .entry))) ⌝ }
 {
-    text_of(job::run(input, output))
-}
-
-// The settings as the calls take them.
-fn settings_of(s: Settings) -> graph::Settings
-    ensures { λ r. ⌜ r ≡ asked s ⌝ }
-{
-    graph::Settings {
-        damping: s.damping,
-        tolerance: s.tolerance,
-        limit: s.limit,
-    }
-}
-
-// What an iterative call returned, in numbers; a refusal's other numbers are 0.
-fn report_of(e: Ended) -> Report
-    ensures { λ r. ⌜ r ≡ reported (saidEnded e) ⌝ }
-{
-    match e {
-        Ended::Done(r) => done_report(r),
-        Ended::Refused(r) => {
-            let answer = r.answer;
-            refused_report(answer)
-        }
-    }
-}
-
-fn done_report(r: Rounds) -> Report
-    ensures { λ x. ⌜ x ≡ reported (done r) ⌝ }
-{
-    let s = r.settings;
-    Report {
-        answer: 0,
-        settled: as_number(r.settled),
-        rounds: r.rounds,
-        settings: Settings {
-            damping: s.damping,
-            tolerance: s.tolerance,
-            limit: s.limit,
-        },
-    }
-}
-
-fn refused_report(answer: Answer) -> Report
-    ensures { λ x. ⌜ x ≡ reported (refusedWith answer) ⌝ }
-{
-    Report {
-        answer: graph::number(answer),
-        settled: 0,
-        rounds: 0,
-        settings: Settings {
-            damping: 0.0,
-            tolerance: 0.0,
-            limit: 0,
-        },
-    }
-}
-
-// What an election returned, in numbers.
-fn election_of(e: Elected) -> Election
-    ensures { λ r. ⌜ r ≡ counted (saidElected e) ⌝ }
-{
-    match e {
-        Elected::Done(k) => Election {
-            answer: 0,
-            elected: k,
-        },
-        Elected::Refused(r) => {
-            let answer = r.answer;
-            Election {
-                answer: graph::number(answer),
-                elected: 0,
-            }
-        }
-    }
-}
-
-// What `run` returned, in numbers.
-fn text_of(ran: Ran) -> Text
-    ensures { λ r. ⌜ r ≡ written (saidRan ran) ⌝ }
-{
-    match ran {
-        Ran::Written(bytes) => Text {
-            answer: 0,
-            length: bytes,
-        },
-        Ran::Refused(r) => {
-            let answer = r.answer;
-            Text {
-                answer: graph::number(answer),
-                length: 0,
-            }
-        }
-    }
-}
-
-// 1 for yes, 0 for no.
-fn as_number(b: bool) -> u32
-    ensures { λ r. ⌜ r ≡ asNumber b ⌝ }
-{
-    if b { 1 } else { 0 }
+    boundary::text_of(job::run(input, output))
 }

@@ -1,3 +1,1 @@
-pub mod Taken
 pub mod Seats
-pub mod Suffices

@@ -1,2 +1,1 @@
 pub mod Scored
-pub mod Pres

@@ -1,6 +1,6 @@
 -- `job::answer` meets its contract. Assumes nothing.
 use mathlib.Core.Path.{sym, _∙_}
-use Rattle.job.proofs.Fronts.{stored-ends}
+use Rattle.scoring.proofs.Fronts.{stored-ends}
 use Rattle.reader.specs.Edges.{fromOf, toOf, bitsOf}
 use Rattle.reader.specs.Job.{edgesOf}
 use Rattle.reader.proofs.Jobs.{edges-asked}

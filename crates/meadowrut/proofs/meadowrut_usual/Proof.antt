@@ -1,7 +1,7 @@
 -- `meadowrut::meadowrut_usual` meets its contract: the usual settings, field by field. Assumes nothing.
 use mathlib.Core.Path.{_≡_, ap}
 use borrow.Author.Needs.{needs}
-use Rattle.meadowrut.specs.Boundary.{returned}
+use Rattle.boundary.specs.Boundary.{returned}
 use Rattle.meadowrut.proofs.meadowrut_usual.Statement.{statement}
 use Rattle.meadowrut.proofs.meadowrut_usual.Tie as tie
 

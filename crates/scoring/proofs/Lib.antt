@@ -1,0 +1,2 @@
+pub mod Suffices
+pub mod Fronts

@@ -1,0 +1,2 @@
+pub mod Scored
+pub mod Pres
