@@ -28,7 +28,7 @@ HeldPairs n number w first pairs lists =
 
 -- ---- one entry
 
--- what `enter` asks: what that of `brandes` does, and a place for the pair
+-- what `enter` asks: what that of `predecessors` does, and a place for the pair
 pub record EnterPairPre (x further ways limit D place last pairs base : ℕ) (w c : List ℕ) : Type 0 where
   pub enter : EnterPre x further ways limit D place last base w c
   pub end : last + x < length w
@@ -65,7 +65,7 @@ VisitedPairs g number limit s D Q beside first last pairs base head u w′ c′ 
     TrackedPairs g number limit s w′ c′ D Q beside first last pairs base head tail u (length (entries g u))
 VisitedPairs g number limit s D Q beside first last pairs base head u w′ c′ reached.Paths = Unit {0}
 
--- what it leaves: what a visit of `brandes` does, with the pairs, whatever the numbers are
+-- what it leaves: what a visit of `predecessors` does, with the pairs, whatever the numbers are
 pub record VisitPairsPost (n limit D Q beside first last pairs base head tail : ℕ) (w c w′ c′ : List ℕ) (r : Reached) : Type 0 where
   pub visit : VisitPost n limit D Q first last base head tail w c w′ c′ r
   pub held : (directed : Bool) (es : List Edge) (number : ℕ → ℕ → ℕ) (s : ℕ)
@@ -84,7 +84,7 @@ pub record OnPairsPost (n limit D Q beside first last pairs base : ℕ) (w c w�
       → TrackedPairs (graphOf n directed es) number limit s w c D Q beside first last pairs base 0 1 (getD w (Q + 0) 0) 0
       → EndedPairs (graphOf n directed es) number s first pairs w′ r
 
--- what the whole search asks: what that of `brandes` does, and places for the pairs
+-- what the whole search asks: what that of `predecessors` does, and places for the pairs
 pub record SearchPairsPre (n s limit D Q beside first last pairs base : ℕ) (w c : List ℕ) : Type 0 where
   pub search : SearchPre n s limit D Q first last base w c
   pub paired : Paired n w D beside first last pairs base

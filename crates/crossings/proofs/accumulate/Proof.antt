@@ -1,4 +1,4 @@
--- `pairs::accumulate` meets its contract: the nodes from place i of the queue have left. Assumes nothing.
+-- `crossings::accumulate` meets its contract: the nodes from place i of the queue have left. Assumes nothing.
 use mathlib.Core.Path.{_≡_, refl, ap, _∙_}
 use mathlib.Core.List.{foldr}
 use Prim.Native.Nat.{ℕ, _+_, _-_, _≤_}

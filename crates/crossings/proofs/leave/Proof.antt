@@ -1,4 +1,4 @@
--- `pairs::leave` meets its contract. Assumes nothing.
+-- `crossings::leave` meets its contract. Assumes nothing.
 use mathlib.Core.Path.{_≡_, refl}
 use Prim.Native.Nat.{ℕ, _+_, _-_, _≤_, _<_}
 use native.Mathlib.Omega.{arith}

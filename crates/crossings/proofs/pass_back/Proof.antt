@@ -1,4 +1,4 @@
--- `pairs::pass_back` meets its contract: the entries before p and their pairs have taken their shares. Assumes nothing.
+-- `crossings::pass_back` meets its contract: the entries before p and their pairs have taken their shares. Assumes nothing.
 use mathlib.Core.Path.{_≡_, refl, ap, _∙_}
 use Prim.Native.Nat.{ℕ, _+_, _-_, _≤_, _<_}
 use native.Mathlib.Omega.{arith}

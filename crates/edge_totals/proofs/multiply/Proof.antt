@@ -1,4 +1,4 @@
--- `edge_betweenness::multiply` meets its contract: after i turns the first i floats are multiplied. Assumes nothing.
+-- `edge_totals::multiply` meets its contract: after i turns the first i floats are multiplied. Assumes nothing.
 use mathlib.Core.Path.{_≡_, refl, subst}
 use Prim.Native.Nat.{ℕ, _-_, _≤_}
 use native.Mathlib.Omega.{arith}

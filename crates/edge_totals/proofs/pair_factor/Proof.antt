@@ -1,4 +1,4 @@
--- `edge_betweenness::pair_factor` meets its contract, directed and undirected. Assumes nothing.
+-- `edge_totals::pair_factor` meets its contract, directed and undirected. Assumes nothing.
 use mathlib.Core.Bool.{true, false}
 use lib.Ieee.{ofBits}
 use Rattle.edge_totals.proofs.Factors.{below-pairs, factor-is}

@@ -1,4 +1,4 @@
--- `edge_betweenness::scale_totals` meets its contract, case by case. Assumes nothing.
+-- `edge_totals::scale_totals` meets its contract, case by case. Assumes nothing.
 use mathlib.Core.Path.{ap, _∙_}
 use mathlib.Core.Bool.{Bool, _&&_}
 use lib.Dec.{ltb}

@@ -1,4 +1,4 @@
--- `edge_betweenness::write_edges` meets its contract: what each step asks, and the results directed and undirected. Assumes nothing.
+-- `edge_totals::write_edges` meets its contract: what each step asks, and the results directed and undirected. Assumes nothing.
 use native.Mathlib.Omega.{arith}
 use Rattle.edge_totals.proofs.Results.{scale-asks, cursors-ask, forward-asks, written-directed, back-asks, written-both}
 use borrow.Author.Needs.{needs}

@@ -1,4 +1,4 @@
--- `pairs::enter` meets its contract. Assumes nothing.
+-- `pair_search::enter` meets its contract. Assumes nothing.
 use mathlib.Core.Path.{_≡_, refl, sym, ap, _∙_}
 use Prim.Native.Nat.{_+_}
 use native.Mathlib.Omega.{arith}

@@ -1,4 +1,4 @@
--- `pairs::search_from` meets its contract: the start alone in the queue, with no pair, is where the visits begin. Assumes nothing.
+-- `pair_search::search_from` meets its contract: the start alone in the queue, with no pair, is where the visits begin. Assumes nothing.
 use native.Mathlib.Omega.{arith}
 use Rattle.hops.proofs.Search.{begin-pre}
 use Rattle.predecessors.proofs.Tours.{stays-then, begun-stays, track-first}

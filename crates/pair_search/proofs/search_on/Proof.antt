@@ -1,4 +1,4 @@
--- `pairs::search_on` meets its contract: before each visit the search is as `Run` and `RunPairs` say. Assumes nothing.
+-- `pair_search::search_on` meets its contract: before each visit the search is as `Run` and `RunPairs` say. Assumes nothing.
 use mathlib.Core.Bool.{Bool}
 use mathlib.Core.List.{List}
 use Prim.Native.Nat.{ℕ, _+_, _-_}

@@ -1,4 +1,4 @@
--- `pairs::visit` meets its contract: at each entry the search is as `TourPairs` says. Assumes nothing.
+-- `pair_search::visit` meets its contract: at each entry the search is as `TourPairs` says. Assumes nothing.
 use mathlib.Core.Path.{sym, _∙_}
 use mathlib.Core.Bool.{Bool}
 use mathlib.Core.List.{List}

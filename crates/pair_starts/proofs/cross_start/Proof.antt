@@ -1,4 +1,4 @@
--- `edge_betweenness::cross_start` meets its contract: search with pairs, accumulation and taking back, one after the other. Assumes nothing.
+-- `pair_starts::cross_start` meets its contract: search with pairs, accumulation and taking back, one after the other. Assumes nothing.
 use native.Mathlib.Omega.{arith}
 use Rattle.pair_starts.proofs.Totalling.{cross-search, cross-paths, cross-accumulate, cross-forget, cross-release, cross-done}
 use borrow.Author.Needs.{needs}

@@ -1,4 +1,4 @@
--- `edge_betweenness::cross_starts` meets its contract: the starts before this one have been added to the totals. Assumes nothing.
+-- `pair_starts::cross_starts` meets its contract: the starts before this one have been added to the totals. Assumes nothing.
 use Prim.Native.Nat.{_-_}
 use native.Mathlib.Omega.{arith}
 use Rattle.starts.proofs.Following.{added-none}

@@ -1,4 +1,4 @@
--- `edge_betweenness::prepare_pairs` meets its contract: the rows and all that the starts need, then the pairs' numbers and totals. Assumes nothing.
+-- `pair_starts::prepare_pairs` meets its contract: the rows and all that the starts need, then the pairs' numbers and totals. Assumes nothing.
 use native.Mathlib.Omega.{arith}
 use lib.Ieee.{ofBits}
 use Rattle.pair_starts.proofs.Pairing.{number-pre, totals-room, prepared-pairs}

@@ -1,4 +1,4 @@
--- `voterank::count_votes` meets its contract: after i edges their votes are counted. Assumes nothing.
+-- `polls::count_votes` meets its contract: after i edges their votes are counted. Assumes nothing.
 use Prim.Native.Nat.{_-_}
 use native.Mathlib.Omega.{arith}
 use lib.ListN.{length}

@@ -1,4 +1,4 @@
--- `voterank::first_highest` meets its contract: of the nodes up to v the first highest is known. Assumes nothing.
+-- `polls::first_highest` meets its contract: of the nodes up to v the first highest is known. Assumes nothing.
 use mathlib.Core.Path.{_≡_, ap, _∙_}
 use Prim.Native.Nat.{ℕ, _+_, _≤_, _-_}
 use native.Mathlib.Omega.{arith}

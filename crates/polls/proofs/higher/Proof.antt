@@ -1,4 +1,4 @@
--- `voterank::higher` meets its contract. Assumes nothing.
+-- `polls::higher` meets its contract. Assumes nothing.
 use borrow.Author.Needs.{needs}
 use Rattle.polls.proofs.higher.Statement.{statement}
 use Rattle.polls.proofs.higher.Tie as tie

@@ -1,4 +1,4 @@
--- `voterank::lose` meets its contract: after k entries each has lost the decay. Assumes nothing.
+-- `polls::lose` meets its contract: after k entries each has lost the decay. Assumes nothing.
 use mathlib.Core.Path.{_≡_, refl, ap, _∙_}
 use mathlib.Core.List.{List, foldl}
 use Prim.Native.Nat.{ℕ, _≤_, _<_, _-_}

@@ -1,4 +1,4 @@
--- `voterank::silence` meets its contract: after i of the elected these score 0. Assumes nothing.
+-- `polls::silence` meets its contract: after i of the elected these score 0. Assumes nothing.
 use Prim.Native.Nat.{ℕ, _≤_, _<_, _-_}
 use mathlib.Core.Path.{_≡_}
 use native.Mathlib.Omega.{arith}

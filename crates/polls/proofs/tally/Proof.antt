@@ -1,4 +1,4 @@
--- `voterank::tally` meets its contract: no votes, then those of all edges. Assumes nothing.
+-- `polls::tally` meets its contract: no votes, then those of all edges. Assumes nothing.
 use mathlib.Core.Path.{_≡_, _∙_}
 use native.Mathlib.Omega.{arith}
 use borrow.Author.Needs.{needs}

@@ -1,4 +1,4 @@
--- `voterank::vote` meets its contract. Assumes nothing.
+-- `polls::vote` meets its contract. Assumes nothing.
 use native.Mathlib.Omega.{arith}
 use lib.ListN.{length-set}
 use Rattle.polls.specs.Steps.{voted}

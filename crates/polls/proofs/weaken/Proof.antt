@@ -1,4 +1,4 @@
--- `voterank::weaken` meets its contract. Assumes nothing.
+-- `polls::weaken` meets its contract. Assumes nothing.
 use mathlib.Core.Path.{_≡_, ap, _∙_}
 use borrow.Author.Needs.{needs}
 use lib.ListN.{length, set, length-set}

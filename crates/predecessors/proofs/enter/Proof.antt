@@ -1,4 +1,4 @@
--- `brandes::enter` meets its contract. Assumes nothing.
+-- `predecessors::enter` meets its contract. Assumes nothing.
 use mathlib.Core.Path.{sym, _∙_}
 use Rattle.predecessors.proofs.Entering.{push-pre, entered-yes, entered-no}
 use borrow.Author.Needs.{needs}

@@ -1,4 +1,4 @@
--- `brandes::search_from` meets its contract: the start alone in the queue is where the visits begin. Assumes nothing.
+-- `predecessors::search_from` meets its contract: the start alone in the queue is where the visits begin. Assumes nothing.
 use native.Mathlib.Omega.{arith}
 use Rattle.hops.proofs.Search.{begin-pre}
 use Rattle.predecessors.proofs.Tours.{stays-then, begun-stays, track-first}

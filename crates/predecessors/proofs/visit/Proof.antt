@@ -1,4 +1,4 @@
--- `brandes::visit` meets its contract: at each entry the search is as `Tour` says. Assumes nothing.
+-- `predecessors::visit` meets its contract: at each entry the search is as `Tour` says. Assumes nothing.
 use mathlib.Core.Path.{sym, _∙_}
 use mathlib.Core.Bool.{Bool}
 use mathlib.Core.List.{List}

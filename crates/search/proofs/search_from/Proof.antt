@@ -1,4 +1,4 @@
--- `hops::search_from` meets its contract: the start alone in the queue is where the visits begin. Assumes nothing.
+-- `search::search_from` meets its contract: the start alone in the queue is where the visits begin. Assumes nothing.
 use Rattle.hops.proofs.Search.{begin-pre, begun-kept, kept-then, first}
 use Rattle.search.proofs.search_from.Statement.{statement}
 use Rattle.search.proofs.search_from.Tie as tie

@@ -1,4 +1,4 @@
--- `hops::visit` meets its contract: at each entry the search is as `Scan` says. Assumes nothing.
+-- `search::visit` meets its contract: at each entry the search is as `Scan` says. Assumes nothing.
 use mathlib.Core.Path.{sym, _∙_}
 use mathlib.Core.Bool.{Bool}
 use mathlib.Core.List.{List}

@@ -1,4 +1,4 @@
--- `betweenness::add_start` meets its contract: search, accumulation and taking back, one after the other. Assumes nothing.
+-- `starts::add_start` meets its contract: search, accumulation and taking back, one after the other. Assumes nothing.
 use native.Mathlib.Omega.{arith}
 use Rattle.starts.proofs.Adding.{search-pre, start-paths, start-accumulate, start-forget, start-release, start-done}
 use borrow.Author.Needs.{needs}

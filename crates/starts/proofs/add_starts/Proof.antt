@@ -1,4 +1,4 @@
--- `betweenness::add_starts` meets its contract: the starts before this one have been added. Assumes nothing.
+-- `starts::add_starts` meets its contract: the starts before this one have been added. Assumes nothing.
 use Prim.Native.Nat.{_-_}
 use native.Mathlib.Omega.{arith}
 use Rattle.starts.proofs.Following.{added-none}

@@ -1,4 +1,4 @@
--- `betweenness::index_entries` meets its contract. Assumes nothing.
+-- `starts::index_entries` meets its contract. Assumes nothing.
 use Rattle.starts.proofs.Indexing.{index-pre, indexed}
 use borrow.Author.Needs.{needs}
 use Rattle.starts.proofs.index_entries.Statement.{statement}

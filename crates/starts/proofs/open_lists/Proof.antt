@@ -1,4 +1,4 @@
--- `betweenness::open_lists` meets its contract: after v turns the ends of the first v nodes are written. Assumes nothing.
+-- `starts::open_lists` meets its contract: after v turns the ends of the first v nodes are written. Assumes nothing.
 use mathlib.Core.Path.{_≡_, subst}
 use Prim.Native.Nat.{ℕ, _-_, _≤_}
 use native.Mathlib.Omega.{arith}

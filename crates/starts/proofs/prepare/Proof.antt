@@ -1,4 +1,4 @@
--- `betweenness::prepare` meets its contract: one step after the other. Assumes nothing.
+-- `starts::prepare` meets its contract: one step after the other. Assumes nothing.
 use native.Mathlib.Omega.{arith}
 use lib.Ieee.{ofBits}
 use Rattle.starts.proofs.Preparing.{rows-pre, room1, index-asks, lists-apart, prepared}
