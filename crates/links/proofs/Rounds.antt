@@ -13,11 +13,11 @@ use Rattle.regions.specs.Region.{Front}
 use Rattle.regions.proofs.Fronts.{front-none, front-then}
 use Rattle.graph.specs.declared.Settings.{Settings}
 use Rattle.graph.specs.declared.Rounds.{Rounds}
-use Rattle.rounds.specs.Rounds.{after, Round, round, Out, outcomeFrom, outcome}
+use Rattle.rounds.specs.Rounds.{Round, round, Out, outcomeFrom, outcome}
 use Rattle.rounds.specs.Vectors.{currentIn, nextIn, Vectors}
 use Rattle.rounds.proofs.Rounds.{rest, rounds-more, rounds-met, rounds-over, rounds-before}
 use Rattle.rounds.specs.Steps.{RoundsDone}
-use Rattle.links.specs.Links.{one, double, absoluteChange, settles}
+use Rattle.links.specs.Links.{double, absoluteChange, settles}
 use Rattle.links.specs.Steps.{LinksPre, Advanced, RoundDone}
 
 -- ---- one round

@@ -2,15 +2,13 @@
 use mathlib.Core.Path.{_≡_, refl, sym, ap, _∙_}
 use mathlib.Core.List.{List, [], foldl}
 use Prim.Native.Nat.{ℕ, _+_, _*_, _-_, _≤_, _<_}
-use native.Mathlib.Nat.{zero-add}
 use native.Mathlib.Omega.{arith}
 use lib.ListN.{length, getD, set}
-use lib.Ieee.{Float, nan, binary64, add, sub, mul, div}
-use Rattle.roots.specs.Absolute.{absOf}
-use Rattle.regions.specs.Region.{zeroF, listOf, part, Front, Frame, Copied}
-use Rattle.regions.proofs.Parts.{part-at, part-is, part-list, list-at}
+use lib.Ieee.{Float, nan, binary64, add, mul, div}
+use Rattle.regions.specs.Region.{listOf, part, Front, Frame}
+use Rattle.regions.proofs.Parts.{part-at, part-is, list-at}
 use Rattle.regions.proofs.Fronts.{list-same, front-none, front-wide}
-use Rattle.regions.proofs.Frames.{frame-part, front-frame, frame-front, frame-none, frame-set, store-more, copied-none, copied-more}
+use Rattle.regions.proofs.Frames.{frame-part, front-frame, frame-none, frame-set, store-more}
 use Rattle.graph.specs.Layout.{entriesAt}
 use Rattle.lists.specs.Lists.{Share, share, longAt}
 use Rattle.lists.proofs.Reading.{fold-none, fold-more}
@@ -18,8 +16,8 @@ use Rattle.rounds.specs.Rounds.{after}
 use Rattle.rounds.specs.Vectors.{entry, currentIn, nextIn, Vectors}
 use Rattle.rounds.proofs.Rounds.{after-none, after-more}
 use Rattle.rounds.proofs.Vectors.{current-at, next-at, next-set, vectors-then, vectors-are}
-use Rattle.links.specs.Links.{linksIn, shareIn, sharesIn, weightsAt, outsIn, gives, distributes, withChange, absoluteChange}
-use Rattle.links.specs.Steps.{LinksPre, Advanced, Divided}
+use Rattle.links.specs.Links.{linksIn, shareIn, sharesIn, weightsAt, outsIn, gives, distributes}
+use Rattle.links.specs.Steps.{LinksPre, Divided}
 
 -- both vectors as they are
 pub vectors-none : (n : ℕ) (w : List Float) {y : List Float} → nextIn n w ≡ y → Vectors n w (currentIn n w) y w
@@ -126,49 +124,6 @@ module _ (n : ℕ) (turn : ℕ → List Float → List Float) (wf₀ : List Floa
 
   pub nodes-done : {v : ℕ} {wf : List Float} → v ≡ n → Vectors n wf₀ (currentIn n wf₀) (after turn v (nextIn n wf₀)) wf → Vectors n wf₀ (currentIn n wf₀) (after turn n (nextIn n wf₀)) wf
   nodes-done e s = vectors-are refl (ap (λ (k : ℕ). after turn k (nextIn n wf₀)) e) s
-
--- ---- `advance`
--- after i nodes
-pub record Advancing (n : ℕ) (wf₀ : List Float) (i : ℕ) (change : Float) (wf : List Float) : Type 0 where
-  pub copied : Copied wf₀ n wf₀ 0 i wf
-  pub change-is : change ≡ after (withChange (currentIn n wf₀) (nextIn n wf₀)) i zeroF
-
-module _ (n : ℕ) (wf₀ : List Float) (room : 4 * n ≤ length wf₀) where
-  pub advancing-none : Advancing n wf₀ 0 zeroF wf₀
-  advancing-none =
-      record {
-        copied = copied-none wf₀ n wf₀ 0;
-        change-is = after-none (withChange (currentIn n wf₀) (nextIn n wf₀)) zeroF;
-      }
-
-  module _ (i : ℕ) (change : Float) (wf : List Float) (l : i < n) (s : Advancing n wf₀ i change wf) where
-    left : (j : ℕ) → i ≤ j → getD wf j nan ≡ getD wf₀ j nan
-    left j h = s .copied .frame .rest nan j (λ p q. omega arith)
-
-    x-is : getD wf i nan ≡ entry (currentIn n wf₀) i
-    x-is = left i (omega arith) ∙ current-at n wf₀ i l
-
-    y-is : getD wf (n + i) nan ≡ entry (nextIn n wf₀) i
-    y-is = left (n + i) (omega arith) ∙ next-at n wf₀ i l
-
-    pub advancing-more : {a : Float} → a ≡ absOf (sub binary64 (getD wf i nan) (getD wf (n + i) nan))
-        → Advancing n wf₀ (i + 1) (add binary64 change a) (set wf i (getD wf (n + i) nan))
-    advancing-more {a} ea =
-        record {
-          copied = rw (zero-add i) at (copied-more nan (getD wf (n + i) nan) (s .copied) (omega arith) (omega arith) (left (n + i) (omega arith)));
-          change-is =
-              ap (λ (z : Float). add binary64 change z) (ea ∙ ap (λ (z : Float). absOf (sub binary64 z (getD wf (n + i) nan))) x-is ∙ ap (λ (z : Float). absOf (sub binary64 (entry (currentIn n wf₀) i) z)) y-is)
-              ∙ after-more (withChange (currentIn n wf₀) (nextIn n wf₀)) i zeroF change (s .change-is);
-        }
-
-  pub advancing-done : (i : ℕ) (change : Float) (wf : List Float) → i ≡ n → Advancing n wf₀ i change wf → Advanced n wf₀ change wf
-  unfolding absoluteChange
-  advancing-done i change wf e s =
-      record {
-        front = frame-front (n + n) (omega arith) (s .copied .frame);
-        current = part-is nan wf 0 n (λ k. getD wf₀ (n + k) nan) (omega (arith, s .copied .frame .long)) (λ k h. s .copied .at nan k (omega arith)) ∙ part-list nan wf₀ n n (omega arith);
-        changed = s .change-is ∙ ap (λ (k : ℕ). after (withChange (currentIn n wf₀) (nextIn n wf₀)) k zeroF) e;
-      }
 
 -- ---- `divide`
 -- after i nodes

@@ -1,11 +1,11 @@
-// What the two PageRanks share: the weighted lists with their out-weights, what a node gives along its list, the move of the next vector,
-// and the vector that is divided by its sum.
+// What the two PageRanks share: the weighted lists with their out-weights, what a node gives along its list,
+// the vector that is divided by its sum, and how a call ends.
 use graph::Ended;
 use graph::Rounds;
 ghost use mathlib.Core.Path.{_≡_};
 ghost use mathlib.Core.Bool.{cond, true};
 ghost use mathlib.Core.List.{foldl};
-ghost use Prim.Native.Nat.{_*_, _<_, _≤_};
+ghost use Prim.Native.Nat.{_<_};
 ghost use lib.ListN.{length};
 ghost use Rattle.regions.specs.Region.{listOf};
 ghost use Rattle.graph.specs.Answers.{saidEnded};
@@ -15,7 +15,7 @@ ghost use Rattle.graph.specs.Left.{left};
 ghost use Rattle.rounds.specs.Ending.{WritePre};
 ghost use Rattle.rounds.specs.Vectors.{entry, currentIn, nextIn, Vectors};
 ghost use Rattle.links.specs.Links.{sharesIn, one, gives, sumOf, divisorOf, dividedAt};
-ghost use Rattle.links.specs.Steps.{LinksPre, PreparePre, Prepared, CopyPre, WeightsCopied, writtenBy, DividePre, Divided, Advanced};
+ghost use Rattle.links.specs.Steps.{LinksPre, PreparePre, Prepared, CopyPre, WeightsCopied, writtenBy, DividePre, Divided};
 
 // Builds the weighted lists, the out-weights from them, and beside them the weights of the entries.
 pub fn prepare(
@@ -111,22 +111,6 @@ pub fn give(nodes: usize, contribution: f64, w: &[u32], v: usize, wf: &mut [f64]
         wf[at] = wf[at] + contribution * wf[weights + k];
         k += 1;
     }
-}
-
-// The next vector becomes the current one. Gives the summed absolute change.
-pub fn advance(nodes: usize, wf: &mut [f64]) -> f64
-    requires { ⌜ 4 * nodes ≤ length (now wf) ⌝ }
-    ensures { λ r. ⌜ Advanced nodes (now (wf .entry)) r (now (wf .exit)) ⌝ }
-{
-    let mut change = 0.0;
-    let mut i = 0;
-    while i < nodes {
-        let next = wf[nodes + i];
-        change = change + roots::abs(wf[i] - next);
-        wf[i] = next;
-        i += 1;
-    }
-    change
 }
 
 // The current vector as scores; wipes the workspace.

@@ -1,1 +1,2 @@
 pub mod PageRank
+pub mod Steps

@@ -15,8 +15,9 @@ ghost use Rattle.rounds.specs.Steps.{RoundsDone};
 ghost use Rattle.rounds.specs.Rounds.{after, outcome, outcomeFrom};
 ghost use Rattle.rounds.specs.Vectors.{currentIn, nextIn, Vectors};
 ghost use Rattle.links.specs.Links.{linksIn, outsIn};
-ghost use Rattle.links.specs.Steps.{LinksPre, RoundDone};
+ghost use Rattle.links.specs.Steps.{LinksPre, Advanced, RoundDone};
 ghost use Rattle.pagerank.specs.PageRank.{withDangling, danglingSum, pagerankNode, pagerankNext, pagerankStep, startWrong, pagerankOutcome};
+ghost use Rattle.pagerank.specs.Steps.{NoneDangles};
 
 // The sum below which a start is refused.
 const TINY: f64 = 0.000000001;
@@ -103,9 +104,10 @@ fn run_on(nodes: usize, settings: Settings, w: &[u32], wf: &mut [f64]) -> Rounds
     let damping = settings.damping;
     let limit = settings.limit;
     let bound = settings.tolerance * std::num::nearest_u64_to_f64(nodes as u64);
+    let none = none_dangles(nodes, wf);
     let mut k = 0u64;
     while k < limit {
-        let change = round(nodes, damping, w, wf);
+        let change = round(nodes, damping, none, w, wf);
         k += 1;
         if change < bound {
             return Rounds {
@@ -122,24 +124,42 @@ fn run_on(nodes: usize, settings: Settings, w: &[u32], wf: &mut [f64]) -> Rounds
     }
 }
 
+// Whether no node dangles: the out-weights are those of every round.
+fn none_dangles(nodes: usize, wf: &[f64]) -> bool
+    requires { ⌜ 4 * nodes ≤ length (now wf) ⌝ }
+    ensures { λ r. ⌜ NoneDangles nodes r (outsIn nodes (now (wf .entry))) ⌝ }
+{
+    let mut i = 0;
+    while i < nodes {
+        if wf[2 * nodes + i] == 0.0 {
+            return false;
+        }
+        i += 1;
+    }
+    true
+}
+
 // One round. Gives the summed absolute change.
-fn round(nodes: usize, damping: f64, w: &[u32], wf: &mut [f64]) -> f64
-    requires { ⌜ LinksPre nodes (now w) (now wf) ⌝ }
+fn round(nodes: usize, damping: f64, none: bool, w: &[u32], wf: &mut [f64]) -> f64
+    requires { ⌜ LinksPre nodes (now w) (now wf) × NoneDangles nodes none (outsIn nodes (now wf)) ⌝ }
     ensures { λ r. ⌜ RoundDone nodes (pagerankNext (linksIn nodes (now (w .entry)) (now (wf .entry))) damping) (now (wf .entry)) r (now (wf .exit)) ⌝ }
 {
     let n = std::num::nearest_u64_to_f64(nodes as u64);
-    let dangling = dangling_sum(nodes, wf);
+    let dangling = dangling_sum(nodes, none, wf);
     let base = (1.0 - damping) / n + dangling * (damping / n);
     regions::fillf(wf, nodes, nodes, base);
     spread(nodes, damping, w, wf);
-    links::advance(nodes, wf)
+    advance(nodes, wf)
 }
 
-// The dangling sum of the current vector.
-fn dangling_sum(nodes: usize, wf: &[f64]) -> f64
-    requires { ⌜ 4 * nodes ≤ length (now wf) ⌝ }
+// The dangling sum of the current vector; where no node dangles no pass is needed.
+fn dangling_sum(nodes: usize, none: bool, wf: &[f64]) -> f64
+    requires { ⌜ (4 * nodes ≤ length (now wf)) × NoneDangles nodes none (outsIn nodes (now wf)) ⌝ }
     ensures { λ r. ⌜ r ≡ danglingSum nodes (outsIn nodes (now (wf .entry))) (currentIn nodes (now (wf .entry))) ⌝ }
 {
+    if none {
+        return 0.0;
+    }
     let mut dangling = 0.0;
     let mut i = 0;
     while i < nodes {
@@ -183,4 +203,20 @@ fn spread_node(nodes: usize, damping: f64, w: &[u32], v: usize, wf: &mut [f64])
         links::give(nodes, damping * wf[v] / out, w, v, wf);
         return;
     }
+}
+
+// The next vector becomes the current one. Gives the summed absolute change.
+fn advance(nodes: usize, wf: &mut [f64]) -> f64
+    requires { ⌜ 4 * nodes ≤ length (now wf) ⌝ }
+    ensures { λ r. ⌜ Advanced nodes (now (wf .entry)) r (now (wf .exit)) ⌝ }
+{
+    let mut change = 0.0;
+    let mut i = 0;
+    while i < nodes {
+        let next = wf[nodes + i];
+        change = change + roots::abs(wf[i] - next);
+        wf[i] = next;
+        i += 1;
+    }
+    change
 }

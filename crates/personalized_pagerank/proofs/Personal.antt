@@ -7,10 +7,11 @@ use native.Mathlib.Omega.{arith}
 use borrow.Author.Tests.{eqb-false}
 use lib.Dec.{eqb}
 use lib.ListN.{length, getD, set}
-use lib.Ieee.{Float, nan, binary64, add, mul, div, lt}
+use lib.Ieee.{Float, nan, binary64, add, sub, mul, div, lt}
+use Rattle.roots.specs.Absolute.{absOf}
 use Rattle.regions.specs.Region.{zeroF, listOf, Front, Copied, Apart}
 use Rattle.regions.proofs.Parts.{part-at, part-is, part-list}
-use Rattle.regions.proofs.Fronts.{front-then, front-wide}
+use Rattle.regions.proofs.Fronts.{missD, front-then, front-wide}
 use Rattle.regions.proofs.Frames.{frame-front, frame-part}
 use Rattle.graph.specs.declared.Answer.{Answer}
 use Rattle.graph.specs.declared.Settings.{Settings}
@@ -28,15 +29,17 @@ use Rattle.rounds.specs.Steps.{RoundsDone}
 use Rattle.rounds.specs.Tests.{readsWrong, lengthWrong, iterativeTests}
 use Rattle.rounds.specs.Ending.{scored}
 use Rattle.rounds.specs.Vectors.{entry, currentIn, nextIn, Vectors}
-use Rattle.rounds.proofs.Vectors.{current-at, next-at, next-set, vectors-then, vectors-are}
+use Rattle.rounds.proofs.Rounds.{after-more}
+use Rattle.rounds.proofs.Vectors.{current-at, next-at, next-set, next-list, vectors-are}
+use Rattle.rounds.proofs.Passes.{Rewritten, rewritten-done}
 use Rattle.rounds.proofs.Tests.{iterative-ready, iterative-fits, length-right}
-use Rattle.links.specs.Links.{Links, linksOf, linksIn, sharesIn, outsIn, double, gives, sumOf, divisorOf, dividedAt, divided, settles}
+use Rattle.links.specs.Links.{Links, linksOf, linksIn, sharesIn, outsIn, double, gives, sumOf, divisorOf, dividedAt, divided, settles, one, withChange, absoluteChange}
 use Rattle.links.specs.Steps.{LinksPre, Prepared, writtenBy, DividePre, Divided, Advanced, RoundDone}
 use Rattle.links.proofs.Turns.{region-kept, shares-kept, links-kept, out-at, distributed, nodes-more}
 use Rattle.links.proofs.Rounds.{advanced-round, links-pre-long, pre-kept, run-some}
 use Rattle.links.proofs.Ending.{written}
 use Rattle.personalized_pagerank.specs.Personalized.{personalIn, personalBase, gainsPart, spreadsPersonal, personalNode, personalNext, personalStep, countsOf, personalOf, personalRounds, dampingWrong, personalOwn, personalTests, personalizedOutcome}
-use Rattle.personalized_pagerank.specs.Steps.{PersonalPre, PersonalBegun}
+use Rattle.personalized_pagerank.specs.Steps.{basesIn, RoundPre, PersonalPre, PersonalBegun}
 
 -- ---- the personalization in the workspace
 pub personal-at : (n : ℕ) (wf : List Float) (j : ℕ) → j < n → getD wf (3 * n + j) nan ≡ entry (personalIn n wf) j
@@ -75,34 +78,53 @@ module _ (n : ℕ) (w : List ℕ) (d : Float) (v : ℕ) (wf : List Float) (l : v
       let b : lt zeroF (entry (outsIn n wf) v) ≡ false = ap (lt zeroF) (sym (out-at n wf v l)) ∙ t in
       rw b (vectors-are refl (ap (λ (x : Float). after (gainsPart (mul binary64 d x) (personalIn n wf)) n (nextIn n wf)) (current-at n wf v l)) s)
 
+-- ---- `advance`
+module _ (n : ℕ) (d : Float) (wf₀ : List Float) where
+  abbrev pub moving : ℕ → Float → Float
+  moving = withChange (currentIn n wf₀) (nextIn n wf₀)
+
+  -- the base of another round, read after the entry i of the current vector was written
+  pub base-again : {wf : List Float} (i : ℕ) (a : Float) → i < n → Front wf₀ (n + n) wf
+      → add binary64 zeroF (mul binary64 (sub binary64 one d) (getD (set wf i a) (3 * n + i) nan)) ≡ personalBase d (personalIn n wf₀) i
+  base-again {wf} i a l front =
+      ap (λ (z : Float). add binary64 zeroF (mul binary64 (sub binary64 one d) z))
+      (missD wf i a (3 * n + i) nan (λ e. omega arith) ∙ front .rest nan (3 * n + i) (omega arith) ∙ personal-at n wf₀ i l)
+
+  -- x and y are the entries i of the two vectors, a their difference without its sign
+  pub change-again : (i : ℕ) {change a x y : Float} → a ≡ absOf (sub binary64 x y) → x ≡ entry (currentIn n wf₀) i → y ≡ entry (nextIn n wf₀) i → change ≡ after moving i zeroF
+      → add binary64 change a ≡ after moving (i + 1) zeroF
+  change-again i {change} {a} {x} {y} ea ex ey e =
+      ap (add binary64 change) (ea ∙ ap (λ (z : Float). absOf (sub binary64 z y)) ex ∙ ap (λ (z : Float). absOf (sub binary64 (entry (currentIn n wf₀) i) z)) ey)
+      ∙ after-more moving i zeroF change e
+
+  pub renewed : {i : ℕ} {change : Float} {wf : List Float} → 4 * n ≤ length wf₀ → i ≡ n → Rewritten n (entry (nextIn n wf₀)) (personalBase d (personalIn n wf₀)) wf₀ i wf → change ≡ after moving i zeroF
+      → Advanced n wf₀ change wf × (nextIn n wf ≡ basesIn n d wf₀)
+  unfolding absoluteChange
+  renewed room e r s =
+      let v = rewritten-done n (entry (nextIn n wf₀)) (personalBase d (personalIn n wf₀)) wf₀ (omega arith) e r in (
+        record { front = v .front; current = v .current ∙ next-list n wf₀ (omega arith); changed = s ∙ ap (λ (k : ℕ). after moving k zeroF) e },
+        v .next,
+      )
+
 -- ---- one round
-module _ (n : ℕ) (w : List ℕ) (d : Float) (wf : List Float) (pre : LinksPre n w wf) where
-  module _ {wf1 : List Float} (b : Divided n (listOf (personalBase d (personalIn n wf)) n) n wf wf1) where
-    begun : Vectors n wf (currentIn n wf) (listOf (personalBase d (personalIn n wf)) n) wf1
-    begun =
-        record {
-          front = frame-front (n + n) (omega arith) (b .frame);
-          current = frame-part nan 0 n (b .frame) (omega (arith, pre .room)) (λ i k p q. omega arith);
-          next = b .there;
-        }
+pub bases-kept : (n : ℕ) (d : Float) {wf wf′ : List Float} → 4 * n ≤ length wf → Front wf (n + n) wf′ → basesIn n d wf′ ≡ basesIn n d wf
+bases-kept n d room front = ap (λ (p : List Float). listOf (personalBase d p) n) (personal-kept n room front)
 
-    pub personal-spread-pre : LinksPre n w wf1
-    personal-spread-pre = pre-kept n w pre (begun .front)
+module _ (n : ℕ) (w : List ℕ) (d : Float) (wf : List Float) (pre : RoundPre n w d wf) where
+  pub personal-round-done : {wf2 wf3 : List Float} {change : Float}
+      → Vectors n wf (currentIn n wf) (after (personalNode (linksIn n w wf) d (personalIn n wf) (currentIn n wf)) n (nextIn n wf)) wf2 → Advanced n wf2 change wf3 × (nextIn n wf3 ≡ basesIn n d wf2)
+      → RoundDone n (personalNext (linksIn n w wf) d (personalIn n wf)) wf change wf3 × (nextIn n wf3 ≡ basesIn n d wf)
+  unfolding personalNext
+  personal-round-done s a = (
+    advanced-round n (personalNext (linksIn n w wf) d (personalIn n wf))
+        (vectors-are refl (ap (after (personalNode (linksIn n w wf) d (personalIn n wf) (currentIn n wf)) n) (pre .begun)) s)
+        (a .0),
+    a .1 ∙ bases-kept n d (pre .links .room) (s .front),
+  )
 
-    pub personal-round-done : {wf2 wf3 : List Float} {change : Float}
-        → Vectors n wf1 (currentIn n wf1) (after (personalNode (linksIn n w wf1) d (personalIn n wf1) (currentIn n wf1)) n (nextIn n wf1)) wf2 → Advanced n wf2 change wf3
-        → RoundDone n (personalNext (linksIn n w wf) d (personalIn n wf)) wf change wf3
-    unfolding personalNext
-    personal-round-done s a =
-        advanced-round n (personalNext (linksIn n w wf) d (personalIn n wf))
-        (vectors-then begun
-        (vectors-are (begun .current)
-        (ap (λ (l : Links). after (personalNode l d (personalIn n wf1) (currentIn n wf1)) n (nextIn n wf1)) (links-kept n w (pre .room) (begun .front))
-        ∙ ap (λ (p : List Float). after (personalNode (linksIn n w wf) d p (currentIn n wf1)) n (nextIn n wf1)) (personal-kept n (pre .room) (begun .front))
-        ∙ ap (λ (x : List Float). after (personalNode (linksIn n w wf) d (personalIn n wf) x) n (nextIn n wf1)) (begun .current)
-        ∙ ap (after (personalNode (linksIn n w wf) d (personalIn n wf) (currentIn n wf)) n) (begun .next))
-        s))
-        a
+  -- and another may begin
+  pub again-pre : {change : Float} {wf′ : List Float} → RoundDone n (personalNext (linksIn n w wf) d (personalIn n wf)) wf change wf′ × (nextIn n wf′ ≡ basesIn n d wf) → RoundPre n w d wf′
+  again-pre r = record { links = pre-kept n w (pre .links) (r .0 .front); begun = r .1 ∙ sym (bases-kept n d (pre .links .room) (r .0 .front)) }
 
 -- a round reads the same links and personalization as the first
 pub personal-round-kept : (n : ℕ) (w : List ℕ) (d : Float) {wf₀ wf : List Float} → LinksPre n w wf₀ → Front wf₀ (n + n) wf → {change : Float} {wf′ : List Float}
@@ -121,7 +143,7 @@ unfolding personalStep
 personal-is l d tolerance p x = refl
 
 -- ---- `begin`
-module _ (n : ℕ) (flag : Bool) (xs wf : List Float) (pre : PersonalPre n flag xs wf) where
+module _ (n : ℕ) (damping : Float) (flag : Bool) (xs wf : List Float) (pre : PersonalPre n flag xs wf) where
   -- sum is what a given vector sums to, b whether that counts
   module _ {sum : Float} {b : Bool} (es : sum ≡ divisorOf flag xs n) (eb : b ≡ countsOf flag sum) where
     counts-are : b ≡ countsOf flag (sumOf xs)
@@ -156,19 +178,27 @@ module _ (n : ℕ) (flag : Bool) (xs wf : List Float) (pre : PersonalPre n flag 
       pub begin-apart : Apart wf1 (3 * n) 0 n
       begin-apart = record { source = omega (arith, pre .room, d .frame .long); target = omega (arith, pre .room, d .frame .long); apart = λ i j l k e. omega arith }
 
-      pub personal-begun : {wf2 : List Float} → Copied wf1 (3 * n) wf1 0 n wf2 → PersonalBegun n (personalOf flag xs n) wf wf2
-      personal-begun {wf2} c =
-          record {
-            front = front-then (frame-front (4 * n) (omega arith) (d .frame)) (frame-front (4 * n) (omega arith) (c .frame));
-            personal = frame-part nan (3 * n) n (c .frame) (omega (arith, pre .room, d .frame .long)) (λ i l p q. omega arith) ∙ personal-there;
-            current =
-                part-is nan wf2 0 n (λ k. getD wf1 (3 * n + k) nan) (omega (arith, pre .room, d .frame .long, c .frame .long)) (c .at nan)
-                ∙ part-list nan wf1 (3 * n) n (omega (arith, pre .room, d .frame .long))
-                ∙ personal-there;
-            outs =
-                frame-part nan (2 * n) n (c .frame) (omega (arith, pre .room, d .frame .long)) (λ i l p q. omega arith)
-                ∙ frame-part nan (2 * n) n (d .frame) (omega (arith, pre .room)) (λ i l p q. omega arith);
-          }
+      module _ {wf2 : List Float} (c : Copied wf1 (3 * n) wf1 0 n wf2) where
+        pub begin-room : 4 * n ≤ length wf2
+        begin-room = omega (arith, pre .room, d .frame .long, c .frame .long)
+
+        pub personal-begun : {wf3 : List Float} → Divided n (basesIn n damping wf2) n wf2 wf3 → PersonalBegun n damping (personalOf flag xs n) wf wf3
+        personal-begun {wf3} b =
+            let kept : personalIn n wf3 ≡ personalIn n wf2 = frame-part nan (3 * n) n (b .frame) (omega (arith, begin-room)) (λ i l p q. omega arith) in
+            record {
+              front = front-then (frame-front (4 * n) (omega arith) (d .frame)) (front-then (frame-front (4 * n) (omega arith) (c .frame)) (frame-front (4 * n) (omega arith) (b .frame)));
+              personal = kept ∙ frame-part nan (3 * n) n (c .frame) (omega (arith, pre .room, d .frame .long)) (λ i l p q. omega arith) ∙ personal-there;
+              current =
+                  frame-part nan 0 n (b .frame) (omega (arith, begin-room)) (λ i l p q. omega arith)
+                  ∙ part-is nan wf2 0 n (λ k. getD wf1 (3 * n + k) nan) (omega (arith, begin-room)) (c .at nan)
+                  ∙ part-list nan wf1 (3 * n) n (omega (arith, pre .room, d .frame .long))
+                  ∙ personal-there;
+              begun = b .there ∙ ap (λ (p : List Float). listOf (personalBase damping p) n) (sym kept);
+              outs =
+                  frame-part nan (2 * n) n (b .frame) (omega (arith, begin-room)) (λ i l p q. omega arith)
+                  ∙ frame-part nan (2 * n) n (c .frame) (omega (arith, pre .room, d .frame .long)) (λ i l p q. omega arith)
+                  ∙ frame-part nan (2 * n) n (d .frame) (omega (arith, pre .room)) (λ i l p q. omega arith);
+            }
 
 -- ---- `personalized_pagerank`
 module _ (settings : Settings) (flag : Bool) (vector : List Float) (g : Given (List Float)) where
@@ -197,9 +227,9 @@ module _ (settings : Settings) (flag : Bool) (vector : List Float) (g : Given (L
       pub personal-pre : PersonalPre (g .nodes) flag vector wf1
       personal-pre = record { long = length-right flag (length vector) (g .nodes) (p .lengths); room = s1 .pre .room }
 
-      module _ {wf2 : List Float} (s2 : PersonalBegun (g .nodes) (personalOf flag vector (g .nodes)) wf1 wf2) where
-        pub personal-run-pre : LinksPre (g .nodes) w1 wf2
-        personal-run-pre = links-pre-long (s1 .pre) (s2 .front .long)
+      module _ {wf2 : List Float} (s2 : PersonalBegun (g .nodes) (settings .damping) (personalOf flag vector (g .nodes)) wf1 wf2) where
+        pub personal-run-pre : RoundPre (g .nodes) w1 (settings .damping) wf2
+        personal-run-pre = record { links = links-pre-long (s1 .pre) (s2 .front .long); begun = s2 .begun }
 
         links : linksIn (g .nodes) w1 wf2 ≡ linksOf (graphIn g)
         links =

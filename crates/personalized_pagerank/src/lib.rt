@@ -8,7 +8,6 @@ ghost use mathlib.Core.Path.{_≡_};
 ghost use mathlib.Core.Bool.{cond};
 ghost use Prim.Native.Nat.{_*_, _<_, _≤_};
 ghost use lib.ListN.{length};
-ghost use Rattle.regions.specs.Region.{listOf};
 ghost use Rattle.graph.specs.Answers.{saidEnded};
 ghost use Rattle.graph.specs.Given.{given as lent};
 ghost use Rattle.graph.specs.Left.{left};
@@ -16,9 +15,9 @@ ghost use Rattle.rounds.specs.Steps.{RoundsDone};
 ghost use Rattle.rounds.specs.Rounds.{after, outcomeFrom};
 ghost use Rattle.rounds.specs.Vectors.{currentIn, nextIn, Vectors};
 ghost use Rattle.links.specs.Links.{linksIn, double};
-ghost use Rattle.links.specs.Steps.{LinksPre, Divided, RoundDone};
-ghost use Rattle.personalized_pagerank.specs.Personalized.{personalIn, personalBase, gainsPart, personalNode, personalNext, personalStep, countsOf, personalOf, dampingWrong, personalizedOutcome};
-ghost use Rattle.personalized_pagerank.specs.Steps.{PersonalPre, PersonalBegun};
+ghost use Rattle.links.specs.Steps.{LinksPre, Divided, Advanced, RoundDone};
+ghost use Rattle.personalized_pagerank.specs.Personalized.{personalIn, gainsPart, personalNode, personalNext, personalStep, countsOf, personalOf, dampingWrong, personalizedOutcome};
+ghost use Rattle.personalized_pagerank.specs.Steps.{basesIn, RoundPre, PersonalPre, PersonalBegun};
 
 // From the personalization vector, into which nodes with no out-weight above zero dangle; 1/n for each node unless a vector is given whose
 // sum is positive.
@@ -68,7 +67,7 @@ pub fn personalized_pagerank(
         return Ended::Refused(Refusal { answer });
     }
     links::prepare(nodes, directed, from, to, weight, w32, wf);
-    begin(nodes, given, personalization, wf);
+    begin(nodes, settings.damping, given, personalization, wf);
     let ended = run(nodes, settings, w32, wf);
     links::write(nodes, from.len(), ended, scores, w32, w64, wf)
 }
@@ -83,16 +82,17 @@ fn damping_wrong(damping: f64) -> bool
     1.0 <= damping
 }
 
-// The personalization in its region, and as the vector that the first round begins with.
-fn begin(nodes: usize, given: bool, vector: &[f64], wf: &mut [f64])
+// The personalization in its region and as the current vector, and the next vector as the first round begins with it.
+fn begin(nodes: usize, damping: f64, given: bool, vector: &[f64], wf: &mut [f64])
     requires { ⌜ PersonalPre nodes given (now vector) (now wf) ⌝ }
-    ensures { λ _. ⌜ PersonalBegun nodes (personalOf given (now (vector .entry)) nodes) (now (wf .entry)) (now (wf .exit)) ⌝ }
+    ensures { λ _. ⌜ PersonalBegun nodes damping (personalOf given (now (vector .entry)) nodes) (now (wf .entry)) (now (wf .exit)) ⌝ }
 {
     let sum = links::divisor(given, vector, nodes);
     let counts = counts(given, sum);
     let base = 3 * nodes;
     links::divide(nodes, counts, vector, chosen(counts, sum, nodes), base, wf);
     regions::copyf_within(wf, base, 0, nodes);
+    bases(nodes, damping, wf);
 }
 
 // A given vector whose sum is positive.
@@ -117,7 +117,7 @@ fn chosen(counts: bool, sum: f64, nodes: usize) -> f64
 
 // Rounds until one meets the stop rule, or all are used.
 fn run(nodes: usize, settings: Settings, w: &[u32], wf: &mut [f64]) -> Rounds
-    requires { ⌜ LinksPre nodes (now w) (now wf) ⌝ }
+    requires { ⌜ RoundPre nodes (now w) (settings .damping) (now wf) ⌝ }
     ensures { λ r. ⌜ RoundsDone nodes settings (outcomeFrom (personalStep (linksIn nodes (now (w .entry)) (now (wf .entry))) (settings .damping) (settings .tolerance) (personalIn nodes (now (wf .entry)))) (settings .limit) 0 (currentIn nodes (now (wf .entry)))) (now (wf .entry)) r (now (wf .exit)) ⌝ }
 {
     let damping = settings.damping;
@@ -144,18 +144,17 @@ fn run(nodes: usize, settings: Settings, w: &[u32], wf: &mut [f64]) -> Rounds
 
 // One round. Gives the summed absolute change.
 fn round(nodes: usize, damping: f64, w: &[u32], wf: &mut [f64]) -> f64
-    requires { ⌜ LinksPre nodes (now w) (now wf) ⌝ }
-    ensures { λ r. ⌜ RoundDone nodes (personalNext (linksIn nodes (now (w .entry)) (now (wf .entry))) damping (personalIn nodes (now (wf .entry)))) (now (wf .entry)) r (now (wf .exit)) ⌝ }
+    requires { ⌜ RoundPre nodes (now w) damping (now wf) ⌝ }
+    ensures { λ r. ⌜ RoundDone nodes (personalNext (linksIn nodes (now (w .entry)) (now (wf .entry))) damping (personalIn nodes (now (wf .entry)))) (now (wf .entry)) r (now (wf .exit)) × (nextIn nodes (now (wf .exit)) ≡ basesIn nodes damping (now (wf .entry))) ⌝ }
 {
-    bases(nodes, damping, wf);
     spread(nodes, damping, w, wf);
-    links::advance(nodes, wf)
+    advance(nodes, damping, wf)
 }
 
 // The next vector at 0.0 + (1-damping)*p[j].
 fn bases(nodes: usize, damping: f64, wf: &mut [f64])
     requires { ⌜ 4 * nodes ≤ length (now wf) ⌝ }
-    ensures { λ _. ⌜ Divided nodes (listOf (personalBase damping (personalIn nodes (now (wf .entry)))) nodes) nodes (now (wf .entry)) (now (wf .exit)) ⌝ }
+    ensures { λ _. ⌜ Divided nodes (basesIn nodes damping (now (wf .entry))) nodes (now (wf .entry)) (now (wf .exit)) ⌝ }
 {
     let kept = 1.0 - damping;
     let base = 3 * nodes;
@@ -202,4 +201,23 @@ fn dangle(nodes: usize, dangling: f64, wf: &mut [f64])
         wf[nodes + j] = wf[nodes + j] + dangling * wf[base + j];
         j += 1;
     }
+}
+
+// The next vector becomes the current one, and the base of another round stands in its place: one pass for both. Gives the summed absolute change.
+fn advance(nodes: usize, damping: f64, wf: &mut [f64]) -> f64
+    requires { ⌜ 4 * nodes ≤ length (now wf) ⌝ }
+    ensures { λ r. ⌜ Advanced nodes (now (wf .entry)) r (now (wf .exit)) × (nextIn nodes (now (wf .exit)) ≡ basesIn nodes damping (now (wf .entry))) ⌝ }
+{
+    let kept = 1.0 - damping;
+    let base = 3 * nodes;
+    let mut change = 0.0;
+    let mut i = 0;
+    while i < nodes {
+        let next = wf[nodes + i];
+        change = change + roots::abs(wf[i] - next);
+        wf[i] = next;
+        wf[nodes + i] = 0.0 + kept * wf[base + i];
+        i += 1;
+    }
+    change
 }

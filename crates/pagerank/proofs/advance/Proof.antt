@@ -1,12 +1,12 @@
--- `links::advance` meets its contract: after i nodes their entries are moved, and their changes added. Assumes nothing.
+-- `pagerank::advance` meets its contract: after i nodes their entries are moved, and their changes added. Assumes nothing.
 use Prim.Native.Nat.{ℕ, _+_, _*_, _-_, _≤_}
 use native.Mathlib.Omega.{arith}
 use lib.ListN.{length}
 use lib.Ieee.{ofBits}
-use Rattle.links.proofs.Turns.{Advancing, advancing-none, advancing-more, advancing-done}
+use Rattle.pagerank.proofs.Nodes.{Advancing, advancing-none, advancing-more, advancing-done}
 use borrow.Author.Needs.{needs}
-use Rattle.links.proofs.advance.Statement.{statement}
-use Rattle.links.proofs.advance.Tie as tie
+use Rattle.pagerank.proofs.advance.Statement.{statement}
+use Rattle.pagerank.proofs.advance.Tie as tie
 
 abbrev Inv-loop : tie.InvT-loop
 Inv-loop nodes wf₀ change₀ i₀ wf change i = (i ≤ nodes) × Advancing nodes wf₀ i change wf
