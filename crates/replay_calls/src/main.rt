@@ -1,13 +1,10 @@
 // Replays the Rust's answers to library calls. Standard input is a list of records, whose format
 // tests/differential/driver/list.rs describes. Each call is made with slices of exactly the lengths that its record gives, and
 // all that it leaves is compared: what it says, the results, the slots beyond them, the workspace.
-mod calls;
-mod compare;
 mod lend;
-mod record;
 
-use crate::record::WORDS;
 use libc::STDIN_FILENO;
+use words::WORDS;
 
 // The calls, by their numbers in the list.
 const CALLS: usize = 14;
@@ -69,16 +66,23 @@ fn count(line: &[u8], seen: &mut [u64; CALLS], differ: &mut [u64; CALLS]) {
         return;
     }
     let mut room = [0u64; WORDS];
-    let n = record::spell(line, &mut room);
-    let words = record::front(&room, n);
-    let call = record::size(words, 0, 0);
+    let n = words::spell(line, &mut room);
+    let words = words::front(&room, n);
+    let call = words::size(words, 0, 0);
     if CALLS <= call {
         records::print(b"a call that is none\n");
         return;
     }
-    seen[call] = std::num::wrapping_add_u64(seen[call], 1);
+    add_one(call, seen);
     if lend::differs(words) {
-        differ[call] = std::num::wrapping_add_u64(differ[call], 1);
+        add_one(call, differ);
+    }
+}
+
+// One more of a call.
+fn add_one(call: usize, counts: &mut [u64; CALLS]) {
+    if call < CALLS {
+        counts[call] = std::num::wrapping_add_u64(counts[call], 1);
     }
 }
 
@@ -107,6 +111,12 @@ fn print_name(call: usize) {
         4 => records::print(b"betweenness"),
         5 => records::print(b"edge_betweenness"),
         6 => records::print(b"local_reaching"),
+        _ => print_later_name(call),
+    }
+}
+
+fn print_later_name(call: usize) {
+    match call {
         7 => records::print(b"global_reaching"),
         8 => records::print(b"voterank"),
         9 => records::print(b"laplacian"),
