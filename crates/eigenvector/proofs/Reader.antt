@@ -14,8 +14,10 @@ use Rattle.regions.proofs.Fronts.{list-long}
 use Rattle.regions.proofs.Parts.{list-at}
 use Rattle.graph.specs.declared.Settings.{Settings}
 use Rattle.graph.specs.declared.Rounds.{Rounds}
-use Rattle.graph.specs.Answers.{Said, done}
+use Rattle.graph.specs.Answers.{done, saidEnded}
 use Rattle.graph.specs.Edges.{Graph}
+use Rattle.graph.specs.declared.Ended.{Ended}
+use Rattle.graph.proofs.Said.{ended-returned}
 use Rattle.graph.specs.Given.{Given, graphIn}
 use Rattle.graph.specs.Refusals.{firstRefusal}
 use Rattle.graph.specs.Left.{left}
@@ -33,9 +35,11 @@ use Rattle.eigenvector.specs.Eigenvector.{tiny, startOf, uniform, grown,
 use Rattle.eigenvector.proofs.Start.{start-finite}
 use Rattle.eigenvector.proofs.Steps.{ready}
 
-pub eigenvector-unique : (settings : Settings) (g : Given (List Float)) {a a′ : Said Rounds} {s s′ : List Float} {x x′ y y′ : List ℕ} {z z′ : List Float}
-    → left a s x y z ≡ eigenOutcome settings g → left a′ s′ x′ y′ z′ ≡ eigenOutcome settings g → (a ≡ a′) × (s ≡ s′) × (x ≡ x′) × (y ≡ y′) × (z ≡ z′)
-eigenvector-unique settings g p q = no-second p q
+pub eigenvector-unique : (settings : Settings) (g : Given (List Float)) {r r′ : Ended} {s s′ : List Float} {x x′ y y′ : List ℕ} {z z′ : List Float}
+    → left (saidEnded r) s x y z ≡ eigenOutcome settings g → left (saidEnded r′) s′ x′ y′ z′ ≡ eigenOutcome settings g → (r ≡ r′) × (s ≡ s′) × (x ≡ x′) × (y ≡ y′) × (z ≡ z′)
+eigenvector-unique settings g {r} {r′} p q =
+    let same = no-second p q in
+    (ended-returned r r′ (same .0), same .1, same .2, same .3, same .4)
 
 module _ (g : Graph) (settings : Settings) where
   pub eigenvector-says : Says (eqb (g .nodes) 0 || eqb (length (g .edges)) 0) (eigenStep g (settings .tolerance)) (settings .limit) (uniform (g .nodes)) (eigenRounds g settings)

@@ -46,17 +46,17 @@ numberSaid (refusal k) = k
 abbrev pub refusedWith : {Values : Type 0} → Answer → Said Values
 refusedWith a = refusal (numberOf a)
 
--- of a call that has no values of its own
+-- what a call says that has no values of its own
 abbrev pub saidPlain : Plain → Said (Unit {0})
 saidPlain plain.Done = done tt
 saidPlain (plain.Refused r) = refusedWith (r .answer)
 
--- of an iterative call: the settings, the rounds done, and whether a stop rule was met
+-- what an iterative call says: the settings, the rounds done, and whether a stop rule was met
 abbrev pub saidEnded : Ended → Said RoundState
 saidEnded (ended.Done r) = done r
 saidEnded (ended.Refused r) = refusedWith (r .answer)
 
--- of an election: how many were elected
+-- what an election says: how many were elected
 abbrev pub saidElected : Elected → Said ℕ
 saidElected (elected.Done k) = done k
 saidElected (elected.Refused r) = refusedWith (r .answer)

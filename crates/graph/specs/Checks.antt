@@ -27,6 +27,7 @@ unfoldable pub firstFault : ℕ → List Edge → Fault
 firstFault n [] = Nothing
 firstFault n (e ∷ es) = cond (ltb (e .from) n) (cond (ltb (e .to) n) (firstFault n es) (To (e .at))) (From (e .at))
 
+-- whether there is one
 abbrev pub someFault : Fault → Bool
 someFault Nothing = false
 someFault (From i) = true
@@ -41,6 +42,7 @@ unfoldable pub firstOdd : ℕ → List Float → Found
 firstOdd i [] = bad.Nothing
 firstOdd i (x ∷ xs) = cond (finite x) (firstOdd (suc i) xs) (bad.At i)
 
+-- whether there is one
 abbrev pub someFound : Found → Bool
 someFound bad.Nothing = false
 someFound (bad.At i) = true

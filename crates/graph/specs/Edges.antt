@@ -14,6 +14,7 @@ pub record Edge : Type 0 where
   pub to : ℕ
   pub weight : Float
 
+-- an edge from its parts
 abbrev pub edge : ℕ → ℕ → ℕ → Float → Edge
 edge k f t x = record { at = k; from = f; to = t; weight = x }
 
@@ -73,6 +74,7 @@ pub record Entry : Type 0 where
   pub target : ℕ
   pub edge : Edge
 
+-- an entry from its parts
 abbrev pub toward : ℕ → Edge → Entry
 toward u e = record { target = u; edge = e }
 

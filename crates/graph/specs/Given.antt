@@ -17,6 +17,7 @@ pub record Given (R : Type 0) : Type 0 where
   pub w64 : List ℕ
   pub wf : List Float
 
+-- what a call is given, from its parameters in their order
 abbrev pub given : {R : Type 0} → ℕ → Bool → List ℕ → List ℕ → List Float → R → List ℕ → List ℕ → List Float → Given R
 given n d f t x r w32 w64 wf = record { nodes = n; directed = d; from = f; to = t; weight = x; results = r; w32 = w32; w64 = w64; wf = wf }
 

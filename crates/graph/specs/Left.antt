@@ -20,6 +20,7 @@ pub record Left (A R : Type 0) : Type 0 where
   pub w64 : List ℕ
   pub wf : List Float
 
+-- what a call leaves, from its parts
 abbrev pub left : {A R : Type 0} → A → R → List ℕ → List ℕ → List Float → Left A R
 left a r w32 w64 wf = record { says = a; results = r; w32 = w32; w64 = w64; wf = wf }
 

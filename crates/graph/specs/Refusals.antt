@@ -29,6 +29,7 @@ pub record Row : Type 0 where
   pub holds : Bool
   pub answer : Answer
 
+-- a row from its parts
 abbrev pub row : Bool → Answer → Row
 row b a = record { holds = b; answer = a }
 
@@ -51,12 +52,13 @@ unfoldable pub firstOf : List Row → Answer
 firstOf [] = Done
 firstOf (r ∷ rs) = cond (r .holds) (r .answer) (firstOf rs)
 
+-- the first refusal of a call, and DONE if nothing refuses
 unfoldable pub firstRefusal : Tests → Answer
 firstRefusal t = firstOf (table t)
 
--- of a measure that reads only the ends of the edges. `empties`: it answers EMPTY for n = 0; `stray`: its start is no node; `short`: ROOM
+-- the tests of a measure that reads only the ends of the edges. `empties`: it answers EMPTY for n = 0; `stray`: its start is no node; `cramped`: ROOM
 abbrev pub endsTests : ℕ → List ℕ → List ℕ → List Float → Bool → Bool → Bool → Tests
-endsTests n from to weight empties stray short =
+endsTests n from to weight empties stray cramped =
     record {
       size = sizeWrong n from to weight;
       empty = empties && eqb n 0;
@@ -66,19 +68,20 @@ endsTests n from to weight empties stray short =
       rounds = false;
       lengths = false;
       start = false;
-      room = short;
+      room = cramped;
     }
 
 -- ROOM: a result slice is too short (`short`), or a workspace of the lengths a, b and c is, for n nodes and m edges
 abbrev pub roomWrong : ℕ → ℕ → Bool → ℕ → ℕ → ℕ → Bool
 roomWrong n m short a b c = short || workWrong (usualFronts n m) a b c
 
--- the first refusal of such a measure that takes a workspace of the lengths a, b and c
+-- the first refusal of a measure that reads only the ends of the edges and takes a workspace of the lengths a, b and c
 abbrev pub plainRefusal : ℕ → List ℕ → List ℕ → List Float → Bool → Bool → Bool → ℕ → ℕ → ℕ → Answer
 plainRefusal n from to weight empties stray short a b c =
     firstRefusal (endsTests n from to weight empties stray (roomWrong n (length from) short a b c))
 
--- the same, of what a call is given
+-- The first refusal, in document 01's order, of a call that reads no weight and takes the usual workspace; DONE if nothing refuses.
+-- `empties`: n = 0 is EMPTY; `stray`: its start is no node; `short`: a result slice is too short.
 abbrev pub plainly : {R : Type 0} → Given R → Bool → Bool → Bool → Answer
 plainly g empties stray short =
     plainRefusal (g .nodes) (g .from) (g .to) (g .weight) empties stray short (length (g .w32)) (length (g .w64)) (length (g .wf))

@@ -25,12 +25,12 @@ walks g (suc k) a b = sumOver (entries g a) (λ x. walks g k x b)
 abbrev pub unreached : ℕ
 unreached = 4294967295
 
--- the first of k, k + 1, .. k + m - 1 at which f is not 0
+-- the first of k, k + 1, .. k + m - 1 at which f is not 0; `unreached` if there is none
 unfoldable pub seek : (ℕ → ℕ) → ℕ → ℕ → ℕ
 seek f zero k = unreached
 seek f (suc m) k = elim (f k) [ zero ↦ seek f m (suc k) | suc x ↦ k ]
 
--- the fewest hops from a to b, of those below the number of nodes (`fewest-lt`: no fewest number is as large)
+-- the fewest hops from a to b, looked for below the number of nodes (`fewest-lt`: no fewest number is as large); `unreached` where no hops lead there
 unfoldable pub dist : Graph → ℕ → ℕ → ℕ
 dist g a b = seek (λ k. walks g k a b) (g .nodes) 0
 
@@ -40,7 +40,7 @@ count g a b = onlyIf (not (eqb (dist g a b) unreached)) (walks g (dist g a b) a 
 
 -- ---- the list of all hop sequences
 
--- the sequences that begin with the hop at position i + j of a list of entries, and go on from its node x by one of r x, for each j
+-- the sequences whose first hop is an entry of the list, the jth counted as hop i + j, and which go on from its node x by one of r x
 unfoldable pub each : (ℕ → List (List ℕ)) → ℕ → List ℕ → List (List ℕ)
 each r i [] = []
 each r i (x ∷ xs) = map (λ p. i ∷ p) (r x) ++ each r (suc i) xs

@@ -14,8 +14,10 @@ use Rattle.regions.specs.Region.{zeroF, listOf}
 use Rattle.regions.proofs.Fronts.{list-long}
 use Rattle.graph.specs.declared.Settings.{Settings}
 use Rattle.graph.specs.declared.Rounds.{Rounds}
-use Rattle.graph.specs.Answers.{Said, done}
+use Rattle.graph.specs.Answers.{done, saidEnded}
 use Rattle.graph.specs.Edges.{Graph}
+use Rattle.graph.specs.declared.Ended.{Ended}
+use Rattle.graph.proofs.Said.{ended-returned}
 use Rattle.graph.specs.Given.{Given, graphIn}
 use Rattle.graph.specs.Refusals.{firstRefusal}
 use Rattle.graph.specs.Left.{left}
@@ -28,9 +30,11 @@ use Rattle.rounds.proofs.Finite.{settles-finite}
 use Rattle.rounds.proofs.Reader.{AllFinite, scores-finite, edges-keep}
 use Rattle.katz.specs.Katz.{betaAt, betaOf, katzNext, katzStep, katzRounds, katzTests, katzOutcome}
 
-pub katz-unique : (settings : Settings) (flag : Bool) (beta : List Float) (g : Given (List Float)) {a a′ : Said Rounds} {s s′ : List Float} {x x′ y y′ : List ℕ} {z z′ : List Float}
-    → left a s x y z ≡ katzOutcome settings flag beta g → left a′ s′ x′ y′ z′ ≡ katzOutcome settings flag beta g → (a ≡ a′) × (s ≡ s′) × (x ≡ x′) × (y ≡ y′) × (z ≡ z′)
-katz-unique settings flag beta g p q = no-second p q
+pub katz-unique : (settings : Settings) (flag : Bool) (beta : List Float) (g : Given (List Float)) {r r′ : Ended} {s s′ : List Float} {x x′ y y′ : List ℕ} {z z′ : List Float}
+    → left (saidEnded r) s x y z ≡ katzOutcome settings flag beta g → left (saidEnded r′) s′ x′ y′ z′ ≡ katzOutcome settings flag beta g → (r ≡ r′) × (s ≡ s′) × (x ≡ x′) × (y ≡ y′) × (z ≡ z′)
+katz-unique settings flag beta g {r} {r′} p q =
+    let same = no-second p q in
+    (ended-returned r r′ (same .0), same .1, same .2, same .3, same .4)
 
 module _ (g : Graph) (settings : Settings) (flag : Bool) (beta : List Float) where
   pub katz-says : Says (eqb (g .nodes) 0) (katzStep g (settings .damping) (settings .tolerance) (betaOf flag beta (g .nodes))) (settings .limit) (listOf (λ _. zeroF) (g .nodes)) (katzRounds g settings flag beta)

@@ -7,23 +7,23 @@ use native.Mathlib.Omega.{arith}
 use lib.ListN.{length, getD, take}
 use lib.Seq.{take-suc, take-all}
 use lib.Ieee.{Float, binary64, add, mul}
-use Rattle.laplacian.specs.Laplacian.{two, degreeOf, ownPart, withNeighbour, laplacianScore}
+use Rattle.laplacian.specs.Laplacian.{two, entryCount, ownPart, withNeighbour, laplacianScore}
 
 -- ---- a neighbour at a time
 module _ (rows : ℕ → List ℕ) (v : ℕ) where
   -- the sum after k entries of v
   abbrev pub sumAfter : ℕ → Float
-  sumAfter k = foldl (withNeighbour rows) (ownPart (degreeOf rows v)) (take k (rows v))
+  sumAfter k = foldl (withNeighbour rows) (ownPart (entryCount rows v)) (take k (rows v))
 
   sum-more : (k : ℕ) → k < length (rows v) → withNeighbour rows (sumAfter k) (getD (rows v) k 0) ≡ sumAfter (k + 1)
   sum-more k l =
       sym
       (ap sumAfter (add-one k)
-      ∙ ap (foldl (withNeighbour rows) (ownPart (degreeOf rows v))) (take-suc (rows v) k 0 l)
-      ∙ foldl-append (withNeighbour rows) (ownPart (degreeOf rows v)) (take k (rows v)) (getD (rows v) k 0 ∷ []))
+      ∙ ap (foldl (withNeighbour rows) (ownPart (entryCount rows v))) (take-suc (rows v) k 0 l)
+      ∙ foldl-append (withNeighbour rows) (ownPart (entryCount rows v)) (take k (rows v)) (getD (rows v) k 0 ∷ []))
 
   -- one turn of the code: u is the kth entry, and d its degree
-  pub sum-turn : (k : ℕ) (sum d : Float) (u : ℕ) → k < length (rows v) → u ≡ getD (rows v) k 0 → d ≡ degreeOf rows u → sum ≡ sumAfter k → add binary64 sum (mul binary64 two d) ≡ sumAfter (k + 1)
+  pub sum-turn : (k : ℕ) (sum d : Float) (u : ℕ) → k < length (rows v) → u ≡ getD (rows v) k 0 → d ≡ entryCount rows u → sum ≡ sumAfter k → add binary64 sum (mul binary64 two d) ≡ sumAfter (k + 1)
   sum-turn k sum d u l eu ed es =
       ap (λ (x : Float). add binary64 sum (mul binary64 two x)) ed
       ∙ ap (withNeighbour rows sum) eu
@@ -32,7 +32,7 @@ module _ (rows : ℕ → List ℕ) (v : ℕ) where
 
   pub sum-all : (k : ℕ) → k ≡ length (rows v) → sumAfter k ≡ laplacianScore rows v
   unfolding laplacianScore
-  sum-all k e = ap (foldl (withNeighbour rows) (ownPart (degreeOf rows v))) (take-all k (rows v) (omega arith))
+  sum-all k e = ap (foldl (withNeighbour rows) (ownPart (entryCount rows v))) (take-all k (rows v) (omega arith))
 
 -- ---- rows that agree for each node
 module _ (n : ℕ) (f g : ℕ → List ℕ) (same : (v : ℕ) → v < n → f v ≡ g v) where
@@ -45,5 +45,5 @@ module _ (n : ℕ) (f g : ℕ → List ℕ) (same : (v : ℕ) → v < n → f v 
   pub score-same : (v : ℕ) → v < n → ((k : ℕ) → k < length (f v) → getD (f v) k 0 < n) → laplacianScore f v ≡ laplacianScore g v
   unfolding laplacianScore
   score-same v l h =
-      fold-same (f v) (ownPart (degreeOf f v)) h
-      ∙ ap (λ (row : List ℕ). foldl (withNeighbour g) (ownPart (degreeOf (λ _. row) v)) row) (same v l)
+      fold-same (f v) (ownPart (entryCount f v)) h
+      ∙ ap (λ (row : List ℕ). foldl (withNeighbour g) (ownPart (entryCount (λ _. row) v)) row) (same v l)

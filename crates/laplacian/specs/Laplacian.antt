@@ -1,4 +1,4 @@
--- Laplacian centrality (Qi et al.; graphina's other.rs): d*d + d + twice the neighbours' d. Definitions only.
+-- Laplacian centrality (document 01, "Laplacian"; graphina's other.rs): d*d + d + twice the neighbours' d, d the number of a node's entries, not its degree. Definitions only.
 use mathlib.Core.Bool.{false}
 use mathlib.Core.List.{List, foldl}
 use Prim.Native.Nat.{ℕ}
@@ -18,8 +18,8 @@ abbrev pub two : Float
 two = ofBits binary64 0x4000_0000_0000_0000
 
 -- the number of entries of v, in its nearest double
-abbrev pub degreeOf : (ℕ → List ℕ) → ℕ → Float
-degreeOf rows v = ofInt binary64 (pos (length (rows v)))
+abbrev pub entryCount : (ℕ → List ℕ) → ℕ → Float
+entryCount rows v = ofInt binary64 (pos (length (rows v)))
 
 -- the sum before the neighbours
 abbrev pub ownPart : Float → Float
@@ -27,11 +27,11 @@ ownPart d = add binary64 (mul binary64 d d) d
 
 -- the sum with one neighbour more
 abbrev pub withNeighbour : (ℕ → List ℕ) → Float → ℕ → Float
-withNeighbour rows sum u = add binary64 sum (mul binary64 two (degreeOf rows u))
+withNeighbour rows sum u = add binary64 sum (mul binary64 two (entryCount rows u))
 
 -- the score of v: its neighbours added in the order of their entries
 unfoldable pub laplacianScore : (ℕ → List ℕ) → ℕ → Float
-laplacianScore rows v = foldl (withNeighbour rows) (ownPart (degreeOf rows v)) (rows v)
+laplacianScore rows v = foldl (withNeighbour rows) (ownPart (entryCount rows v)) (rows v)
 
 -- the n scores of a graph
 unfoldable pub laplacianScores : {R : Type 0} → Given R → List Float

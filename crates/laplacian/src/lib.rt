@@ -9,7 +9,7 @@ ghost use Rattle.graph.specs.Answers.{saidPlain};
 ghost use Rattle.graph.specs.Given.{given};
 ghost use Rattle.graph.specs.Left.{left};
 ghost use Rattle.rows.specs.Rows.{rowAt, RowsFit};
-ghost use Rattle.laplacian.specs.Laplacian.{degreeOf, laplacianScore, laplacianOutcome};
+ghost use Rattle.laplacian.specs.Laplacian.{entryCount, laplacianScore, laplacianOutcome};
 
 // d*d + d + twice the neighbours' d, for each node; d is the number of its neighbour entries.
 // Refuses SIZE, NODE, ROOM, in this order.
@@ -76,7 +76,7 @@ fn score(nodes: usize, w: &[u32], v: usize) -> f64
 
 fn degree(nodes: usize, w: &[u32], v: usize) -> f64
     requires { ⌜ RowsFit nodes (now w) × (v < nodes) ⌝ }
-    ensures { λ r. ⌜ r ≡ degreeOf (rowAt nodes (now (w .entry))) v ⌝ }
+    ensures { λ r. ⌜ r ≡ entryCount (rowAt nodes (now (w .entry))) v ⌝ }
 {
     std::num::nearest_u64_to_f64(rows::row_length(nodes, w, v) as u64)
 }

@@ -12,7 +12,9 @@ use Rattle.regions.specs.Region.{zeroF, listOf}
 use Rattle.regions.proofs.Fronts.{list-long}
 use Rattle.graph.specs.declared.Settings.{Settings}
 use Rattle.graph.specs.declared.Rounds.{Rounds}
-use Rattle.graph.specs.Answers.{Said, done}
+use Rattle.graph.specs.Answers.{done, saidEnded}
+use Rattle.graph.specs.declared.Ended.{Ended}
+use Rattle.graph.proofs.Said.{ended-returned}
 use Rattle.graph.specs.Given.{Given, graphIn}
 use Rattle.graph.specs.Refusals.{firstRefusal}
 use Rattle.graph.specs.Left.{left}
@@ -25,9 +27,11 @@ use Rattle.links.specs.Links.{Links, linksOf, distributes, divided}
 use Rattle.links.proofs.Settled.{distributes-long, after-long, divided-long, rounds-finite, scores-finite}
 use Rattle.pagerank.specs.PageRank.{danglingSum, pagerankBase, pagerankNode, pagerankNext, pagerankStep, pagerankRounds, tiny, pagerankTests, pagerankOutcome}
 
-pub pagerank-unique : (settings : Settings) (flag : Bool) (start : List Float) (g : Given (List Float)) {a a′ : Said Rounds} {s s′ : List Float} {x x′ y y′ : List ℕ} {z z′ : List Float}
-    → left a s x y z ≡ pagerankOutcome settings flag start g → left a′ s′ x′ y′ z′ ≡ pagerankOutcome settings flag start g → (a ≡ a′) × (s ≡ s′) × (x ≡ x′) × (y ≡ y′) × (z ≡ z′)
-pagerank-unique settings flag start g p q = no-second p q
+pub pagerank-unique : (settings : Settings) (flag : Bool) (start : List Float) (g : Given (List Float)) {r r′ : Ended} {s s′ : List Float} {x x′ y y′ : List ℕ} {z z′ : List Float}
+    → left (saidEnded r) s x y z ≡ pagerankOutcome settings flag start g → left (saidEnded r′) s′ x′ y′ z′ ≡ pagerankOutcome settings flag start g → (r ≡ r′) × (s ≡ s′) × (x ≡ x′) × (y ≡ y′) × (z ≡ z′)
+pagerank-unique settings flag start g {r} {r′} p q =
+    let same = no-second p q in
+    (ended-returned r r′ (same .0), same .1, same .2, same .3, same .4)
 
 -- the sum below which a start is refused is the double nearest to 1e-9
 pub tiny-nearest : tiny ≡ nearest binary64 false 1 1000000000

@@ -12,7 +12,9 @@ use Rattle.regions.specs.Region.{zeroF, listOf}
 use Rattle.regions.proofs.Fronts.{list-long}
 use Rattle.graph.specs.declared.Settings.{Settings}
 use Rattle.graph.specs.declared.Rounds.{Rounds}
-use Rattle.graph.specs.Answers.{Said, done}
+use Rattle.graph.specs.Answers.{done, saidEnded}
+use Rattle.graph.specs.declared.Ended.{Ended}
+use Rattle.graph.proofs.Said.{ended-returned}
 use Rattle.graph.specs.Given.{Given, graphIn}
 use Rattle.graph.specs.Refusals.{firstRefusal}
 use Rattle.graph.specs.Left.{left}
@@ -25,9 +27,11 @@ use Rattle.links.specs.Links.{Links, linksOf, distributes, sumOf}
 use Rattle.links.proofs.Settled.{distributes-long, after-long, divided-long, rounds-finite, scores-finite}
 use Rattle.personalized_pagerank.specs.Personalized.{personalBase, gainsPart, spreadsPersonal, personalNode, personalNext, personalStep, countsOf, personalOf, personalRounds, personalTests, personalizedOutcome}
 
-pub personalized-unique : (settings : Settings) (flag : Bool) (vector : List Float) (g : Given (List Float)) {a a′ : Said Rounds} {s s′ : List Float} {x x′ y y′ : List ℕ} {z z′ : List Float}
-    → left a s x y z ≡ personalizedOutcome settings flag vector g → left a′ s′ x′ y′ z′ ≡ personalizedOutcome settings flag vector g → (a ≡ a′) × (s ≡ s′) × (x ≡ x′) × (y ≡ y′) × (z ≡ z′)
-personalized-unique settings flag vector g p q = no-second p q
+pub personalized-unique : (settings : Settings) (flag : Bool) (vector : List Float) (g : Given (List Float)) {r r′ : Ended} {s s′ : List Float} {x x′ y y′ : List ℕ} {z z′ : List Float}
+    → left (saidEnded r) s x y z ≡ personalizedOutcome settings flag vector g → left (saidEnded r′) s′ x′ y′ z′ ≡ personalizedOutcome settings flag vector g → (r ≡ r′) × (s ≡ s′) × (x ≡ x′) × (y ≡ y′) × (z ≡ z′)
+personalized-unique settings flag vector g {r} {r′} p q =
+    let same = no-second p q in
+    (ended-returned r r′ (same .0), same .1, same .2, same .3, same .4)
 
 module _ (l : Links) (settings : Settings) (flag : Bool) (vector : List Float) where
   abbrev personal : List Float

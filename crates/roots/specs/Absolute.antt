@@ -2,6 +2,7 @@
 use mathlib.Core.Bool.{false}
 use lib.Ieee.{Float, nan, inf, fin}
 
+-- x without its sign
 abbrev pub absOf : Float → Float
 absOf nan = nan
 absOf (inf s) = inf false

@@ -2,6 +2,7 @@
 use mathlib.Core.Bool.{Bool, false, _&&_, _||_, cond}
 use lib.Ieee.{Float, nan, inf, fin, lt, eq, isNan}
 
+-- whether the sign is negative; a NaN has none here
 abbrev pub negative : Float → Bool
 negative nan = false
 negative (inf s) = s

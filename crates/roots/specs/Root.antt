@@ -17,7 +17,7 @@ parts nan = 0
 parts (inf s) = 0
 parts (fin s m e) = m * up e * 2 ^ 1074 / down e
 
--- r, counted in parts, is the double nearest to the root of n: the middle between r and any other finite double q lies on q's side of the root.
+-- r, counted in parts, is the nearest to the root of n of all doubles, for an r that is a double: the middle between r and any other finite double q lies on q's side of the root.
 -- It is said in squares of whole numbers: the middle is half of q + r, and 4 * n is the square of twice the root. No middle is the root, so there is no tie.
 pub record IsRoot (n : ℕ) (r : Float) : Type 0 where
   pub number : T (positive r)
@@ -36,7 +36,7 @@ SquareRoot (fin false (suc m) e) r = IsRoot (parts (fin false (suc m) e) * 2 ^ 1
 
 -- ---- the root as a function, digit by digit
 
--- the whole part of the root of a, which is below 4 ^ n
+-- the whole part of the root of an a below 4 ^ n
 unfoldable pub isqrt : ℕ → ℕ → ℕ
 isqrt zero a = 0
 isqrt (suc n) a = let q = 2 * isqrt n (a / 4) in cond (leb ((q + 1) * (q + 1)) a) (q + 1) q
@@ -45,7 +45,7 @@ isqrt (suc n) a = let q = 2 * isqrt n (a / 4) in cond (leb ((q + 1) * (q + 1)) a
 unfoldable pub roundRoot : ℕ → ℕ
 roundRoot a = (isqrt 54 (a * 4 ^ 27) + 1) / 2
 
--- The root of a * 2 ^ (52 + e) parts, for an a of 53 binary digits: half the exponent, and the rounded root, whose leading digit adds one to the exponent's field.
+-- The double of as many parts as the root of a * 2 ^ (52 + e), for an a of 53 binary digits: half the exponent, and the rounded root, whose leading digit adds one to the exponent's field.
 unfoldable pub rootAt : ℕ → ℕ → Float
 rootAt a e = ofBits binary64 (e / 2 * 2 ^ 52 + roundRoot (a * 2 ^ (e % 2)))
 
@@ -54,6 +54,7 @@ unfoldable pub rootOf : ℕ → ℕ → Float
 rootOf zero t = let z = leadingZeros 64 t - 11 in rootAt (t * 2 ^ z) (1022 - z)
 rootOf (suc e) t = rootAt (2 ^ 52 + t) (e + 1022)
 
+-- the square root of any double: the special cases of `SquareRoot`, and above zero the root of its exponent and fraction
 unfoldable pub sqrtOf : Float → Float
 sqrtOf nan = nan
 sqrtOf (inf true) = nan

@@ -82,7 +82,7 @@ fn root_of(exponent: u64, fraction: u64) -> f64
     }
 }
 
-// The root of a * 2 ^ (52 + e) parts: of a or 2 * a by the exponent's last bit, put together with half the exponent.
+// The double of as many parts as the root of a * 2 ^ (52 + e): of a or 2 * a by the exponent's last bit, put together with half the exponent.
 // The root's leading digit adds one to the exponent's field.
 fn root_at(a: u64, e: u64) -> f64
     requires { ⌜ (2 ^ 52 ≤ a) × (a < 2 ^ 53) × (e < 3068) ⌝ }

@@ -19,6 +19,7 @@ pub record Results : Type 0 where
   pub distances : List ℕ
   pub counts : List ℕ
 
+-- the two, from their lists
 abbrev pub results : List ℕ → List ℕ → Results
 results d c = record { distances = d; counts = c }
 

@@ -27,7 +27,7 @@ use Rattle.voterank.proofs.Order.{fine, zero-fine, one-fine, fine-cond,
 
 -- ---- the first highest
 
--- b is a node whose score is the highest of the n, and no lower-numbered node has the same; it is above 0
+-- b is a node whose score is the highest of the n, and no lower-numbered node has the same
 pub record Highest (score : ℕ → Float) (n b : ℕ) : Type 0 where
   pub node : b < n
   pub highest : (v : ℕ) → v < n → lt (score b) (score v) ≡ false

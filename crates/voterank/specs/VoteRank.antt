@@ -39,6 +39,7 @@ pub record Poll : Type 0 where
   pub ability : List Float
   pub elected : List ℕ
 
+-- a poll from its parts
 abbrev pub poll : List Float → List ℕ → Poll
 poll a es = record { ability = a; elected = es }
 
