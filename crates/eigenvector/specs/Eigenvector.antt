@@ -65,6 +65,7 @@ unfoldable pub eigenEnd : ℕ → Float → List Float → List Float → Round 
 eigenEnd n tolerance x y =
     cond (lt (normOf n y) tiny) (round (uniform n) true) (round (scaled n (normOf n y) y) (settles tolerance n x (scaled n (normOf n y) y)))
 
+-- a round: what the edges make of x, and how the round ends with it
 unfoldable pub eigenStep : Graph → Float → List Float → Round (List Float)
 eigenStep g tolerance x = eigenEnd (g .nodes) tolerance x (grown g x)
 
@@ -84,6 +85,7 @@ eigenOwn settings g =
       start = false;
     }
 
+-- every row of document 01's table, for this call
 abbrev pub eigenTests : Settings → Given (List Float) → Tests
 eigenTests settings g = iterativeTests g false (eigenOwn settings g)
 

@@ -5,7 +5,7 @@ use Prim.Native.Nat.{ℕ}
 use lib.Ieee.{Float}
 use Rattle.graph.specs.Edges.{Edge, edgesOf, Graph}
 
--- R is what the result slices hold: of a call with one, its list
+-- what a call is given; R is what the result slices hold: of a call with one, its list
 pub record Given (R : Type 0) : Type 0 where
   pub nodes : ℕ
   pub directed : Bool

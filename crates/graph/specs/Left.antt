@@ -12,7 +12,7 @@ use Rattle.graph.specs.Answers.{Said, numberSaid, refuses, refusedWith}
 use Rattle.graph.specs.Given.{Given}
 use Rattle.graph.specs.Fronts.{usualFronts}
 
--- A is what the call says, R what its result slices hold
+-- what a call leaves: A is what the call says, R what its result slices hold
 pub record Left (A R : Type 0) : Type 0 where
   pub says : A
   pub results : R

@@ -61,6 +61,7 @@ katzOwn settings flag beta g =
       start = false;
     }
 
+-- every row of document 01's table, for this call
 abbrev pub katzTests : Settings → Bool → List Float → Given (List Float) → Tests
 katzTests settings flag beta g = iterativeTests g false (katzOwn settings flag beta g)
 

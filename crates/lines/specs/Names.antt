@@ -31,11 +31,12 @@ nameOf Voterank = bytes "voterank"
 nameOf Laplacian = bytes "laplacian"
 nameOf Degree = bytes "degree"
 
--- the first of some measures whose name a text is
+-- the first of some measures whose name a text is; unknown if it is none of theirs
 unfoldable pub firstNamed : List Measure → List ℕ → Named
 firstNamed [] s = Unknown
 firstNamed (m ∷ ms) s = cond (isWord (nameOf m) s) (Measured m) (firstNamed ms s)
 
+-- the measure, of all nine, whose name a text is
 abbrev pub measureOf : List ℕ → Named
 measureOf s = firstNamed measures s
 

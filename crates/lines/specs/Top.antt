@@ -12,11 +12,12 @@ use Rattle.lines.specs.declared.Top.{Top}
 use Rattle.lines.specs.declared.TopRead.{TopRead}
 use Rattle.lines.specs.declared.TopRead.the-variants.{Read, Fault}
 
--- A faulty line decides, by its number from 0; after another the next line is read.
+-- A faulty line decides, by its number from 0; after any other the reading goes on.
 abbrev pub lineThen : Line → ℕ → (ℕ → ℕ → TopRead) → TopRead
 lineThen (Value v next) line go = go v next
 lineThen Fault line go = Fault line
 
+-- The six lines from `at` on, in this order; a setting above its `most` is a fault of its line.
 unfoldable pub topOf : Most → List ℕ → ℕ → TopRead
 topOf most s at =
     lineThen (kindLine s at) 0 (λ kind a.

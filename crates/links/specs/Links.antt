@@ -20,12 +20,14 @@ pub record Links : Type 0 where
   pub outs : List Float
   pub shares : List (List Share)
 
+-- the out-weights and weighted lists of a graph's nodes
 abbrev pub linksOf : Graph → Links
 linksOf g =
     record { nodes = g .nodes; outs = listOf (outWeight (g .directed) (g .edges)) (g .nodes); shares = listOf (sharesOf (g .directed) (g .edges)) (g .nodes) }
 
 -- ---- the same of n nodes, read in the workspace
 
+-- the out-weights of n nodes, in the workspace
 abbrev pub outsIn : ℕ → List Float → List Float
 outsIn n wf = part wf (outWeightsAt n) n
 
@@ -37,10 +39,11 @@ weightsAt n = totalsAt n
 abbrev pub shareIn : ℕ → List ℕ → List Float → ℕ → Share
 shareIn n w wf j = share (getD w (entriesAt n + j) 0) (getD wf (weightsAt n + j) nan)
 
--- the list of v
+-- the list of v, in the workspace
 abbrev pub sharesIn : ℕ → List ℕ → List Float → ℕ → List Share
 sharesIn n w wf v = listOf (λ k. shareIn n w wf (getD w v 0 + k)) (longAt w v)
 
+-- what a round reads of n nodes, in the workspace
 abbrev pub linksIn : ℕ → List ℕ → List Float → Links
 linksIn n w wf = record { nodes = n; outs = outsIn n wf; shares = listOf (sharesIn n w wf) n }
 
@@ -74,19 +77,22 @@ absoluteChange n x y = after (withChange x y) n zeroF
 unfoldable pub settles : Float → ℕ → List Float → List Float → Bool
 settles tolerance n x y = lt (absoluteChange n x y) (mul binary64 tolerance (double n))
 
--- the entries of a given vector, added from +0.0 in order
+-- a sum with one entry more
 abbrev pub withEntry : List Float → ℕ → Float → Float
 withEntry xs i sum = add binary64 sum (entry xs i)
 
+-- the entries of a given vector, added from +0.0 in order
 unfoldable pub sumOf : List Float → Float
 sumOf xs = after (withEntry xs) (length xs) zeroF
 
--- each of n entries divided by the sum of a vector that counts, else 1/n
+-- what entries are divided by: the sum of a vector that counts (`flag`), else n
 abbrev pub divisorOf : Bool → List Float → ℕ → Float
 divisorOf flag xs n = cond flag (sumOf xs) (double n)
 
+-- the entry i of a vector that counts, else 1, over the divisor
 abbrev pub dividedAt : Bool → List Float → Float → ℕ → Float
 dividedAt flag xs divisor i = div binary64 (cond flag (entry xs i) one) divisor
 
+-- each of n entries divided by the sum of a vector that counts, else 1/n
 unfoldable pub divided : Bool → List Float → ℕ → List Float
 divided flag xs n = listOf (dividedAt flag xs (divisorOf flag xs n)) n

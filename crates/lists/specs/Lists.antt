@@ -15,6 +15,7 @@ pub record Place : Type 0 where
   pub target : ℕ
   pub at : ℕ
 
+-- such an entry from its parts
 abbrev pub place : ℕ → ℕ → Place
 place u k = record { target = u; at = k }
 
@@ -36,23 +37,24 @@ listAt n m w v = listOf (λ k. placeAt n m w (getD w v 0 + k)) (longAt w v)
 
 -- ---- what a round reads of an entry
 
--- the node it leads to, and its weight
+-- a share: the node that the entry leads to, and its weight
 pub record Share : Type 0 where
   pub target : ℕ
   pub weight : Float
 
+-- a share from its parts
 abbrev pub share : ℕ → Float → Share
 share u x = record { target = u; weight = x }
 
--- of an entry of a weighted list
+-- the share of an entry of a weighted list
 abbrev pub shareOf : Entry → Share
 shareOf x = share (x .target) (x .edge .weight)
 
--- of an entry in the workspace: the weight is read in the lent slice
+-- the share of an entry in the workspace: the weight is read in the lent slice
 abbrev pub shareAt : List Float → Place → Share
 shareAt weight p = share (p .target) (getD weight (p .at) nan)
 
--- what the edges give each node, in edge order
+-- the shares of the weighted list of v, in edge order
 abbrev pub sharesOf : Bool → List Edge → ℕ → List Share
 sharesOf directed es v = map shareOf (weighted directed es v)
 
@@ -82,6 +84,7 @@ pub record ListsFit (n m : ℕ) (w : List ℕ) : Type 0 where
   pub nodes : (v j : ℕ) → v < n → getD w v 0 ≤ j → j < getD w (v + 1) 0 → getD w (entriesAt n + j) 0 < n
   pub edges : (v j : ℕ) → v < n → getD w v 0 ≤ j → j < getD w (v + 1) 0 → getD w (besideAt n m + j) 0 < m
 
+-- what building asks: a sound graph, and room for its lists
 pub record BuildPre (n : ℕ) (from to : List ℕ) (weight : List Float) (w : List ℕ) : Type 0 where
   pub sound : Sound n from to weight
   pub room : listsFront n (length from) ≤ length w

@@ -26,6 +26,7 @@ use Rattle.links.specs.Links.{Links, linksOf, one, double, distributes, settles
 abbrev pub dangles : Float → Float → Float → Float
 dangles out x sum = cond (eq out zeroF) (add binary64 sum x) sum
 
+-- the sum with node i's entry, if that node dangles
 abbrev pub withDangling : List Float → List Float → ℕ → Float → Float
 withDangling outs x i sum = dangles (entry outs i) (entry x i) sum
 
@@ -77,6 +78,7 @@ pagerankOwn settings flag start g =
       start = startWrong flag (g .nodes) (divisorOf flag start (g .nodes));
     }
 
+-- every row of document 01's table, for this call
 abbrev pub pagerankTests : Settings → Bool → List Float → Given (List Float) → Tests
 pagerankTests settings flag start g = iterativeTests g false (pagerankOwn settings flag start g)
 

@@ -81,6 +81,7 @@ personalOwn settings flag vector g =
       start = false;
     }
 
+-- every row of document 01's table, for this call: n = 0 is EMPTY
 abbrev pub personalTests : Settings → Bool → List Float → Given (List Float) → Tests
 personalTests settings flag vector g = iterativeTests g true (personalOwn settings flag vector g)
 

@@ -22,10 +22,11 @@ pub record Edges : Type 0 where
   pub given : List Given
   pub fault : ℕ
 
--- Edge lines follow the eight lines of the head.
+-- the number of edge k's line, k from 0: the eight lines of the head stand before it
 abbrev pub lineOf : ℕ → ℕ
 lineOf k = k + 9
 
+-- an edge, and after it those of the lines that follow; a faulty line decides, by its number `line`
 abbrev pub edgeThen : EdgeLine → ℕ → (ℕ → Edges) → Edges
 edgeThen (Edge f t w next) line go = record { given = record { from = f; to = t; weight = w } ∷ go next .given; fault = go next .fault }
 edgeThen Fault line go = record { given = []; fault = line }
@@ -40,9 +41,11 @@ edgesFrom s (suc m) k at = edgeThen (edgeLine s at) (lineOf k) (λ next. edgesFr
 abbrev pub endOf : ℕ → ℕ
 endOf x = min x 4294967295
 
+-- an edge's from, so held
 abbrev pub fromOf : Given → ℕ
 fromOf g = endOf (g .from)
 
+-- an edge's to, so held
 abbrev pub toOf : Given → ℕ
 toOf g = endOf (g .to)
 

@@ -11,6 +11,7 @@ use Rattle.lines.specs.Names.{nameOf}
 use Rattle.reply.specs.declared.Settled.{Settled}
 use Rattle.reply.specs.declared.Settled.the-variants.{Yes, No, Neither}
 
+-- yes, no or none
 abbrev pub settledText : Settled → List ℕ
 settledText Yes = bytes "yes"
 settledText No = bytes "no"

@@ -12,6 +12,7 @@ pub record Round (S : Type 0) : Type 0 where
   pub next : S
   pub met : Bool
 
+-- a round from its parts
 abbrev pub round : {S : Type 0} → S → Bool → Round S
 round s b = record { next = s; met = b }
 
@@ -21,6 +22,7 @@ pub record Out (S : Type 0) : Type 0 where
   pub rounds : ℕ
   pub settled : Bool
 
+-- where rounds ended, from its parts
 abbrev pub out : {S : Type 0} → S → ℕ → Bool → Out S
 out s k b = record { last = s; rounds = k; settled = b }
 

@@ -18,6 +18,7 @@ stateAfter step s k = iterate (λ x. step x .next) k s
 abbrev pub metAfter : {S : Type 0} → (S → Round S) → S → ℕ → Bool
 metAfter step s k = step (stateAfter step s k) .met
 
+-- o tells how at most `limit` rounds from s ended; `before`: a stop rule is met before the first of them
 pub record Says {S : Type 0} (before : Bool) (step : S → Round S) (limit : ℕ) (s : S) (o : Out S) : Type 0 where
   -- the last state is the start stepped exactly that often, and no oftener than allowed
   pub last-is : o .last ≡ stateAfter step s (o .rounds)

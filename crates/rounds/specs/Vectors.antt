@@ -40,10 +40,11 @@ squaredChange n x y = after (withChange x y) n zeroF
 unfoldable pub settles : Float → ℕ → List Float → List Float → Bool
 settles tolerance n x y = lt (sqrtOf (squaredChange n x y)) tolerance
 
--- the vector that a round begins with, and the one that it makes, in the floats of a workspace
+-- the vector that a round begins with, in the floats of a workspace
 abbrev pub currentIn : ℕ → List Float → List Float
 currentIn n w = part w scoresAt n
 
+-- the vector that a round makes, in the floats of a workspace
 abbrev pub nextIn : ℕ → List Float → List Float
 nextIn n w = part w (nextAt n) n
 
