@@ -9,9 +9,9 @@ use lib.Dec.{ltb}
 use lib.ListN.{length, getD}
 use lib.Ieee.{Float, nan}
 use Rattle.regions.specs.Region.{over, listOf}
-use Rattle.graph.specs.declared.Answer.the-variants.{Paths}
+use Rattle.answers.specs.declared.Answer.the-variants.{Paths}
 use Rattle.graph.specs.declared.Fronts.{Fronts}
-use Rattle.graph.specs.Answers.{Said, done, refusedWith}
+use Rattle.answers.specs.Answers.{Said, done, refusedWith}
 use Rattle.graph.specs.Edges.{edgesOf}
 use Rattle.graph.specs.Fronts.{usualFronts}
 use Rattle.graph.specs.Given.{Given, graphIn}

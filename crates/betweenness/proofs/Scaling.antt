@@ -9,10 +9,10 @@ use borrow.Author.Tests.{lt-ltb, le-ltb}
 use lib.ListN.{length, getD, length-map, List·getD-map}
 use lib.Seq.{ext-getD}
 use lib.Ieee.{Float, nan, binary64, mul, div}
+use Rattle.regions.specs.Doubles.{double, one}
 use Rattle.regions.specs.Region.{over, listOf, part}
 use Rattle.regions.proofs.Fronts.{list-long, list-same}
 use Rattle.regions.proofs.Parts.{list-at, part-is}
-use Rattle.brandes.specs.Shares.{one, double}
 use Rattle.betweenness.specs.Betweenness.{half, scaled}
 use Rattle.starts.specs.Starts.{Scored}
 

@@ -5,15 +5,16 @@ use Prim.Native.Nat.{ℕ, _*_, _-_}
 use lib.Dec.{ltb}
 use lib.ListN.{length}
 use lib.Ieee.{Float, binary64, ofBits, mul, div}
+use Rattle.regions.specs.Doubles.{double, one}
 use Rattle.regions.specs.Region.{over}
-use Rattle.graph.specs.declared.Answer.the-variants.{Paths}
-use Rattle.graph.specs.Answers.{Said, done}
+use Rattle.answers.specs.declared.Answer.the-variants.{Paths}
+use Rattle.answers.specs.Answers.{Said, done}
 use Rattle.graph.specs.Edges.{Graph}
 use Rattle.graph.specs.Given.{Given, graphIn}
 use Rattle.graph.specs.Refusals.{plainly}
 use Rattle.graph.specs.Left.{Left, wiped, unlessRefused, lateRefusal}
 use Rattle.hops.specs.Hops.{pathLimit}
-use Rattle.brandes.specs.Shares.{one, double, scoresAfter, someExceeds}
+use Rattle.brandes.specs.Shares.{scoresAfter, someExceeds}
 
 -- 0.5
 abbrev pub half : Float

@@ -7,7 +7,7 @@ use lib.ListN.{length}
 use lib.Ieee.{Float}
 use Rattle.regions.specs.Region.{over}
 use Rattle.graph.specs.Edges.{edgesOf}
-use Rattle.graph.specs.Settings.{nodeLimit}
+use Rattle.answers.specs.Settings.{nodeLimit}
 use Rattle.hops.specs.Hops.{pathLimit}
 use Rattle.hops.specs.Search.{graphOf}
 use Rattle.brandes.specs.Shares.{someExceeds}

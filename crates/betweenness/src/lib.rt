@@ -1,12 +1,12 @@
 // Betweenness of the nodes (Brandes 2001).
-use graph::Answer;
-use graph::Plain;
-use graph::Refusal;
+use answers::Answer;
+use answers::Plain;
+use answers::Refusal;
 ghost use mathlib.Core.Path.{_≡_};
 ghost use lib.ListN.{getD};
 ghost use lib.Ieee.{nan, binary64, mul};
 ghost use Rattle.regions.specs.Region.{over, listOf};
-ghost use Rattle.graph.specs.Answers.{saidPlain};
+ghost use Rattle.answers.specs.Answers.{saidPlain};
 ghost use Rattle.graph.specs.Given.{given};
 ghost use Rattle.graph.specs.Left.{left};
 ghost use Rattle.betweenness.specs.Betweenness.{scaled, betweennessOutcome};
@@ -40,7 +40,7 @@ pub fn betweenness(
         w64.len(),
         wf.len(),
     );
-    if graph::refuses(answer) {
+    if answers::refuses(answer) {
         return Plain::Refused(Refusal { answer });
     }
     let many = score_nodes(

@@ -4,15 +4,15 @@ use mathlib.Core.List.{List, []}
 use Prim.Native.Nat.{ℕ}
 use lib.Dec.{eqb}
 use Rattle.regions.specs.Region.{zeroF}
-use Rattle.graph.specs.declared.Rounds.{Rounds}
-use Rattle.graph.specs.Answers.{Said, done, refusal}
+use Rattle.answers.specs.declared.Rounds.{Rounds}
+use Rattle.answers.specs.Answers.{Said, done, refusal}
 use Rattle.graph.specs.Left.{Left, left}
 use Rattle.job.specs.Run.{RunLeft}
 use Rattle.boundary.specs.declared.Settings.{Settings}
 use Rattle.boundary.specs.declared.Report.{Report}
 use Rattle.boundary.specs.declared.Election.{Election}
 use Rattle.boundary.specs.declared.Text.{Text}
-use Rattle.graph.specs.declared.Settings.{Settings as Asked}
+use Rattle.answers.specs.declared.Settings.{Settings as Asked}
 
 -- a flag is raised unless it is 0
 abbrev pub raised : ℕ → Bool

@@ -1,12 +1,12 @@
 // What passes between C and the calls: the structs of include/meadowrut.h, and what a call said in their numbers.
 ghost use mathlib.Core.Path.{_≡_};
-ghost use Rattle.graph.specs.Answers.{done, refusedWith, saidEnded, saidElected};
+ghost use Rattle.answers.specs.Answers.{done, refusedWith, saidEnded, saidElected};
 ghost use Rattle.job.specs.Run.{saidRan};
 ghost use Rattle.boundary.specs.Boundary.{asked, reported, counted, written, asNumber};
-use graph::Answer;
-use graph::Elected;
-use graph::Ended;
-use graph::Rounds;
+use answers::Answer;
+use answers::Elected;
+use answers::Ended;
+use answers::Rounds;
 use job::Ran;
 
 // What the iterative calls are asked.
@@ -41,10 +41,10 @@ pub struct Text {
 }
 
 // The settings as the calls take them.
-pub fn settings_of(s: Settings) -> graph::Settings
+pub fn settings_of(s: Settings) -> answers::Settings
     ensures { λ r. ⌜ r ≡ asked s ⌝ }
 {
-    graph::Settings {
+    answers::Settings {
         damping: s.damping,
         tolerance: s.tolerance,
         limit: s.limit,
@@ -86,7 +86,7 @@ fn refused_report(answer: Answer) -> Report
     ensures { λ x. ⌜ x ≡ reported (refusedWith answer) ⌝ }
 {
     Report {
-        answer: graph::number(answer),
+        answer: answers::number(answer),
         settled: 0,
         rounds: 0,
         settings: Settings {
@@ -109,7 +109,7 @@ pub fn election_of(e: Elected) -> Election
         Elected::Refused(r) => {
             let answer = r.answer;
             Election {
-                answer: graph::number(answer),
+                answer: answers::number(answer),
                 elected: 0,
             }
         }
@@ -128,7 +128,7 @@ pub fn text_of(ran: Ran) -> Text
         Ran::Refused(r) => {
             let answer = r.answer;
             Text {
-                answer: graph::number(answer),
+                answer: answers::number(answer),
                 length: 0,
             }
         }

@@ -8,10 +8,11 @@ use native.Mathlib.Omega.{arith}
 use lib.Dec.{eqb}
 use lib.ListN.{length, getD, length-set}
 use lib.Ieee.{Float, nan, binary64, add}
+use Rattle.regions.specs.Doubles.{one}
 use Rattle.regions.specs.Region.{Front}
 use Rattle.regions.proofs.Fronts.{hitD, missD, front-none, front-set}
 use Rattle.hops.proofs.Sums.{eq-or-ne}
-use Rattle.brandes.specs.Shares.{one, share, grow, Sums, sums, passed, leave}
+use Rattle.brandes.specs.Shares.{share, grow, Sums, sums, passed, leave}
 use Rattle.brandes.specs.Steps.{heldCount, passedBack, leftBy}
 
 -- the floats hold the scores in their first n places and delta in the next n

@@ -6,10 +6,11 @@ use Prim.Native.Nat.{ℕ, _+_}
 use lib.ListN.{getD, set}
 use lib.Seq.{getD-set-other, set-comm}
 use lib.Ieee.{Float, nan, binary64, add}
+use Rattle.regions.specs.Doubles.{one}
 use Rattle.graph.specs.Edges.{Graph}
 use Rattle.hops.proofs.Sums.{eq-or-ne, eqb-no}
 use Rattle.predecessors.specs.Order.{entered}
-use Rattle.brandes.specs.Shares.{one, share, grow, Sums, passed, leave}
+use Rattle.brandes.specs.Shares.{share, grow, Sums, passed, leave}
 
 -- ---- where delta stays
 

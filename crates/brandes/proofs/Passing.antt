@@ -6,8 +6,9 @@ use native.Mathlib.Omega.{arith}
 use borrow.Author.Tests.{eq-eqb, ne-eqb}
 use lib.ListN.{length, getD, length-set}
 use lib.Ieee.{Float, nan, binary64, add}
+use Rattle.regions.specs.Doubles.{one}
 use Rattle.regions.specs.Region.{part}
-use Rattle.brandes.specs.Shares.{one, share, grow}
+use Rattle.brandes.specs.Shares.{share, grow}
 use Rattle.brandes.specs.Steps.{heldCount, passedBack, heldPredecessors, leftBy}
 use Rattle.brandes.proofs.Folds.{part-none, fold-more}
 

@@ -7,13 +7,14 @@ use native.Mathlib.Omega.{arith}
 use lib.ListN.{length, getD}
 use lib.Seq.{ext-getD}
 use lib.Ieee.{Float}
+use Rattle.regions.specs.Doubles.{double}
 use Rattle.regions.specs.Region.{listOf, part, Front}
 use Rattle.regions.proofs.Parts.{part-long, part-at, part-list}
 use Rattle.graph.specs.Edges.{Graph}
 use Rattle.hops.specs.Hops.{unreached, dist, count}
 use Rattle.hops.specs.Search.{cells}
 use Rattle.predecessors.specs.Order.{order, predecessors}
-use Rattle.brandes.specs.Shares.{double, Sums, leave}
+use Rattle.brandes.specs.Shares.{Sums, leave}
 use Rattle.brandes.specs.Steps.{heldPredecessors, leftBy, HeldEntries, AccumulatePre}
 use Rattle.predecessors.specs.Tracks.{Traced}
 use Rattle.predecessors.proofs.Predecessors.{entered-mem}

@@ -3,21 +3,13 @@ use mathlib.Core.Bool.{Bool, false, cond, _||_}
 use mathlib.Core.List.{List, foldl, foldr}
 use Prim.Native.Nat.{ℕ, zero, suc}
 use lib.Dec.{eqb}
-use lib.IntN.{pos}
 use lib.ListN.{getD, set, replicate}
-use lib.Ieee.{Float, nan, binary64, ofBits, ofInt, add, mul, div}
+use lib.Ieee.{Float, nan, binary64, add, mul, div}
+use Rattle.regions.specs.Doubles.{double, one}
 use Rattle.regions.specs.Region.{zeroF}
 use Rattle.graph.specs.Edges.{Graph}
 use Rattle.hops.specs.Hops.{count, exceeds}
 use Rattle.predecessors.specs.Order.{order, predecessors}
-
--- 1.0
-abbrev pub one : Float
-one = ofBits binary64 0x3ff0_0000_0000_0000
-
--- a count as a double
-abbrev pub double : ℕ → Float
-double k = ofInt binary64 (pos k)
 
 -- (count[v]/count[w]) * grown
 abbrev pub share : Float → Float → Float → Float

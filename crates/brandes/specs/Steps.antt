@@ -7,8 +7,9 @@ use Prim.Native.Nat.{ℕ, _+_, _-_, _≤_, _<_}
 use lib.Dec.{eqb}
 use lib.ListN.{length, getD}
 use lib.Ieee.{Float, nan, binary64, add}
+use Rattle.regions.specs.Doubles.{double, one}
 use Rattle.regions.specs.Region.{part, zeroF}
-use Rattle.brandes.specs.Shares.{one, double, share, grow}
+use Rattle.brandes.specs.Shares.{share, grow}
 
 -- the count of v that the 64-bit numbers hold, as a double
 abbrev pub heldCount : List ℕ → ℕ → Float

@@ -1,6 +1,6 @@
 // The calls of a record that go by rounds: PageRank, personalized PageRank, eigenvector and Katz. Each is lent slices of exactly
 // the lengths that the record gives.
-use graph::Settings;
+use answers::Settings;
 use lent::FLOATS;
 use lent::Left;
 use lent::NARROW;

@@ -1,6 +1,6 @@
 // What a call says and leaves, held to its record.
+use answers::Settings;
 use graph::Fronts;
-use graph::Settings;
 use lent::FLOATS;
 use lent::Left;
 use lent::NARROW;

@@ -10,6 +10,7 @@ use lib.Dec.{eqb}
 use lib.ListN.{length, getD, replicate, length-replicate, getD-replicate, length-map, List·getD-map}
 use lib.Seq.{ext-getD}
 use lib.Ieee.{Float, nan}
+use Rattle.regions.specs.Doubles.{double}
 use Rattle.regions.specs.Region.{zeroF, part, Frame2}
 use Rattle.regions.proofs.Parts.{part-long, part-at}
 use Rattle.regions.proofs.Fronts.{getD-any}
@@ -18,7 +19,6 @@ use Rattle.graph.specs.Edges.{Graph, entries, only}
 use Rattle.hops.specs.Hops.{unreached, dist, count}
 use Rattle.hops.proofs.Sums.{eq-or-ne, eqb-no}
 use Rattle.predecessors.specs.Order.{order, predecessors, copies, enteredBy, entered}
-use Rattle.brandes.specs.Shares.{double}
 use Rattle.brandes.specs.Steps.{heldPredecessors}
 use Rattle.predecessors.specs.Tracks.{Traced}
 use Rattle.predecessors.proofs.Predecessors.{by-mem, entered-mem}

@@ -8,9 +8,10 @@ use native.Mathlib.Omega.{arith}
 use lib.Dec.{eqb}
 use lib.ListN.{length, getD, length-set}
 use lib.Ieee.{Float, nan, binary64, add}
+use Rattle.regions.specs.Doubles.{one}
 use Rattle.regions.proofs.Fronts.{hitD, missD}
 use Rattle.hops.proofs.Sums.{eq-or-ne, eqb-yes, eqb-no}
-use Rattle.brandes.specs.Shares.{one, share, grow, passed}
+use Rattle.brandes.specs.Shares.{share, grow, passed}
 use Rattle.brandes.specs.Steps.{heldCount}
 use Rattle.crossings.specs.Totals.{Totals, crossing, leaveBy}
 use Rattle.crossings.specs.Crossings.{crossed, crossedAll, leftAcross}

@@ -5,9 +5,10 @@ use Prim.Native.Nat.{ℕ, _+_, _-_, _≤_, _<_}
 use native.Mathlib.Omega.{arith}
 use lib.ListN.{length, getD, length-set}
 use lib.Ieee.{Float, nan, binary64, add}
+use Rattle.regions.specs.Doubles.{one}
 use Rattle.regions.specs.Region.{part}
 use Rattle.regions.proofs.Parts.{part-long}
-use Rattle.brandes.specs.Shares.{one, share, grow}
+use Rattle.brandes.specs.Shares.{share, grow}
 use Rattle.brandes.specs.Steps.{heldCount, heldPredecessors}
 use Rattle.brandes.proofs.Folds.{part-none, part-more}
 use Rattle.crossings.specs.Crossings.{crossed, crossedAll, leftAcross}

@@ -3,7 +3,8 @@ use mathlib.Core.List.{List, [], _∷_}
 use Prim.Native.Nat.{ℕ, _+_, _≤_, _<_}
 use lib.ListN.{length, getD}
 use lib.Ieee.{Float, nan, binary64, add}
-use Rattle.brandes.specs.Shares.{one, share, grow}
+use Rattle.regions.specs.Doubles.{one}
+use Rattle.brandes.specs.Shares.{share, grow}
 use Rattle.brandes.specs.Steps.{heldCount, HeldEntries}
 
 -- floats with delta in the n places behind the first n and totals from t: v takes its share, and the total of its pair the same

@@ -4,11 +4,12 @@ use mathlib.Core.List.{List, foldl, foldr}
 use Prim.Native.Nat.{ℕ, zero, suc, _*_, _-_}
 use lib.Dec.{eqb, ltb}
 use lib.ListN.{getD, replicate}
-use lib.Ieee.{Float, nan, binary64, ofBits, add, mul, div}
+use lib.Ieee.{Float, nan, binary64, add, mul, div}
+use Rattle.regions.specs.Doubles.{double, one, two}
 use Rattle.regions.specs.Region.{zeroF}
 use Rattle.graph.specs.Edges.{Graph}
 use Rattle.predecessors.specs.Order.{order, predecessors}
-use Rattle.brandes.specs.Shares.{one, double, share, passed, ways}
+use Rattle.brandes.specs.Shares.{share, passed, ways}
 
 -- delta and the total of each ordered pair, while the nodes leave
 pub record Totals : Type 0 where
@@ -39,10 +40,6 @@ totalsAfter g zero a b = zeroF
 totalsAfter g (suc k) a b = totalsFrom g k (totalsAfter g k) .total a b
 
 -- ---- the scaling
-
--- 2.0
-abbrev pub two : Float
-two = ofBits binary64 0x4000_0000_0000_0000
 
 -- normalized and n > 1: times 1/(n(n-1)) directed, 2/(n(n-1)) undirected; else as it is
 unfoldable pub scaledTotal : ℕ → Bool → Bool → Float → Float

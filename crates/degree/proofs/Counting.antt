@@ -12,19 +12,20 @@ use lib.IntN.{pos}
 use lib.ListN.{length, getD, set, take, length-set}
 use lib.Seq.{take-suc, take-length, length-take-le}
 use lib.Ieee.{Float, binary64, nan, add, ofInt}
+use Rattle.regions.specs.Doubles.{one}
 use Rattle.regions.specs.Region.{Front, zeroF, cleared}
 use Rattle.regions.proofs.Cases.{bool-cases}
 use Rattle.regions.proofs.Fronts.{front-none, front-set, front-then, hitD, missD, cleared-at, cleared-frontD}
-use Rattle.graph.specs.Edges.{edgesFrom}
+use Rattle.graph.specs.Edges.{edgesFrom, oneIf}
 use Rattle.graph.specs.Pres.{Sized}
-use Rattle.degree.specs.Degree.{one, endCount}
-use Rattle.degree.specs.Tally.{oneF, plusOne, tally, inTurn, pairTally, TallyPre}
+use Rattle.degree.specs.Degree.{endCount}
+use Rattle.degree.specs.Tally.{plusOne, tally, inTurn, pairTally, TallyPre}
 use Rattle.degree.proofs.Exact.{one-more}
 
 -- how many of the ends are v
 abbrev pub countIn : ℕ → List ℕ → ℕ
 countIn v [] = 0
-countIn v (e ∷ es) = one (eqb e v) + countIn v es
+countIn v (e ∷ es) = oneIf (eqb e v) + countIn v es
 
 pub countIn-few : (v : ℕ) (es : List ℕ) → countIn v es ≤ length es
 countIn-few v [] = omega arith
@@ -40,20 +41,20 @@ unfolding ofInt
 counts-none w₀ n l = record { front = cleared-frontD zeroF n w₀ l; at = λ v h. cleared-at zeroF nan n w₀ v h }
 
 module _ (w₀ : List Float) (n : ℕ) (room : n ≤ length w₀) where
-  count-one : (c : ℕ → ℕ) (w : List Float) (e : ℕ) → e < n → c e ≤ 2 ^ 53 → Counts w₀ n c w → Counts w₀ n (λ v. c v + one (eqb e v)) (plusOne w e)
+  count-one : (c : ℕ → ℕ) (w : List Float) (e : ℕ) → e < n → c e ≤ 2 ^ 53 → Counts w₀ n c w → Counts w₀ n (λ v. c v + oneIf (eqb e v)) (plusOne w e)
   count-one c w e l few s =
       record {
-        front = front-set e (add binary64 (getD w e nan) oneF) (s .front) l;
+        front = front-set e (add binary64 (getD w e nan) one) (s .front) l;
         at = λ v h.
             ⊎-elim
             (λ b.
             let q : e ≡ v = eqb-true e v b in
             rw b
-            (hitD w e (add binary64 (getD w e nan) oneF) v nan (sym q) (omega (arith, s .front .long))
-            ∙ ap (λ (x : Float). add binary64 x oneF) (s .at e l)
+            (hitD w e (add binary64 (getD w e nan) one) v nan (sym q) (omega (arith, s .front .long))
+            ∙ ap (λ (x : Float). add binary64 x one) (s .at e l)
             ∙ one-more (c e) few
             ∙ ap (λ (x : ℕ). ofInt binary64 (pos (c x + 1))) q))
-            (λ b. rw b (missD w e (add binary64 (getD w e nan) oneF) v nan (λ q. eqb-false e v b (sym q)) ∙ s .at v h ∙ ap (λ (x : ℕ). ofInt binary64 (pos x)) (more (c v))))
+            (λ b. rw b (missD w e (add binary64 (getD w e nan) one) v nan (λ q. eqb-false e v b (sym q)) ∙ s .at v h ∙ ap (λ (x : ℕ). ofInt binary64 (pos x)) (more (c v))))
             (bool-cases (eqb e v));
       }
     where
@@ -67,13 +68,13 @@ module _ (w₀ : List Float) (n : ℕ) (room : n ≤ length w₀) where
       more : (x : ℕ) → x ≡ x + 0
       more x = omega arith
   count-all (e ∷ es) c w h few s =
-      let r = count-all es (λ v. c v + one (eqb e v)) (plusOne w e) (λ i l. h (suc i) (omega arith)) small (count-one c w e (h 0 (omega arith)) (omega (arith, few e)) s) in
-      record { front = r .front; at = λ v l. r .at v l ∙ ap (λ (x : ℕ). ofInt binary64 (pos x)) (both (c v) (one (eqb e v)) (countIn v es)) }
+      let r = count-all es (λ v. c v + oneIf (eqb e v)) (plusOne w e) (λ i l. h (suc i) (omega arith)) small (count-one c w e (h 0 (omega arith)) (omega (arith, few e)) s) in
+      record { front = r .front; at = λ v l. r .at v l ∙ ap (λ (x : ℕ). ofInt binary64 (pos x)) (both (c v) (oneIf (eqb e v)) (countIn v es)) }
     where
       both : (x y z : ℕ) → x + y + z ≡ x + (y + z)
       both x y z = omega arith
 
-      small : (v : ℕ) → c v + one (eqb e v) + length es ≤ 2 ^ 53
+      small : (v : ℕ) → c v + oneIf (eqb e v) + length es ≤ 2 ^ 53
       small v = ⊎-elim (λ b. rw b (omega (arith, few v))) (λ b. rw b (omega (arith, few v))) (bool-cases (eqb e v))
 
 -- ---- a turn of the walk
@@ -150,10 +151,10 @@ both-ends p q k [] (t ∷ ts) xs v s = absurd (omega (arith, s .tos))
 both-ends p q k (f ∷ fs) [] xs v s = absurd (omega (arith, s .tos))
 both-ends p q k (f ∷ fs) (t ∷ ts) [] v s = absurd (omega (arith, s .weights))
 both-ends p q k (f ∷ fs) (t ∷ ts) (x ∷ xs) v s =
-    ap (λ (r : ℕ). one (p && eqb f v) + one (q && eqb t v) + r) (both-ends p q (suc k) fs ts xs v (record { tos = omega (arith, s .tos); weights = omega (arith, s .weights) }))
+    ap (λ (r : ℕ). oneIf (p && eqb f v) + oneIf (q && eqb t v) + r) (both-ends p q (suc k) fs ts xs v (record { tos = omega (arith, s .tos); weights = omega (arith, s .weights) }))
     ∙ split p q
   where
-    split : (a b : Bool) → one (a && eqb f v) + one (b && eqb t v) + (countIn v (cond a fs []) + countIn v (cond b ts [])) ≡ countIn v (cond a (f ∷ fs) []) + countIn v (cond b (t ∷ ts) [])
+    split : (a b : Bool) → oneIf (a && eqb f v) + oneIf (b && eqb t v) + (countIn v (cond a fs []) + countIn v (cond b ts [])) ≡ countIn v (cond a (f ∷ fs) []) + countIn v (cond b (t ∷ ts) [])
     split true true = omega arith
     split true false = omega arith
     split false true = omega arith

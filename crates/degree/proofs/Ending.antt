@@ -13,7 +13,7 @@ use lib.Ieee.{Float, binary64, nan, ofInt}
 use Rattle.regions.specs.Region.{over, listOf, cleared, zeroF, Front}
 use Rattle.regions.proofs.Fronts.{list-long, cleared-none}
 use Rattle.regions.proofs.Parts.{list-at, over-is}
-use Rattle.graph.specs.Answers.{done}
+use Rattle.answers.specs.Answers.{done}
 use Rattle.graph.specs.Fronts.{noFronts}
 use Rattle.graph.specs.Given.{Given, edgesIn}
 use Rattle.graph.specs.Left.{left, wipedBy}

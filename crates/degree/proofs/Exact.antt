@@ -9,12 +9,12 @@ use lib.Ieee.Exact.{HasValue}
 use lib.Ieee.Back.{round-whole}
 use lib.Ieee.Fits.{down-pos}
 use lib.Ieee.Scale.{round-same}
-use Rattle.degree.specs.Tally.{oneF}
+use Rattle.regions.specs.Doubles.{one}
 
 abbrev unit : Float
 unit = fin false 1 (pos 0)
 
-one-is : oneF ≡ unit
+one-is : one ≡ unit
 unfolding ofBits
 one-is = refl
 
@@ -29,6 +29,6 @@ plus-unit f (fin false m e) k v = round-same f false (m * up e * 1 + 1 * 1 * dow
     same : (a d : ℕ) → a * 1 ≡ k * d → (a * 1 + 1 * 1 * d) * 1 ≡ (k + 1) * (d * 1)
     same a d h = omega (arith, h)
 
-pub one-more : (k : ℕ) → k ≤ 2 ^ 53 → add binary64 (ofInt binary64 (pos k)) oneF ≡ ofInt binary64 (pos (k + 1))
+pub one-more : (k : ℕ) → k ≤ 2 ^ 53 → add binary64 (ofInt binary64 (pos k)) one ≡ ofInt binary64 (pos (k + 1))
 unfolding ofInt
 one-more k l = ap (add binary64 (round binary64 false k 1)) one-is ∙ plus-unit binary64 (round binary64 false k 1) k (round-whole binary64 false k l)

@@ -7,22 +7,17 @@ use lib.IntN.{pos}
 use lib.ListN.{length}
 use lib.Ieee.{Float, binary64, ofInt}
 use Rattle.regions.specs.Region.{over, listOf}
-use Rattle.graph.specs.Answers.{Said, done}
-use Rattle.graph.specs.Edges.{Edge}
+use Rattle.answers.specs.Answers.{Said, done}
+use Rattle.graph.specs.Edges.{Edge, oneIf}
 use Rattle.graph.specs.Fronts.{noFronts}
 use Rattle.graph.specs.Given.{Given, edgesIn}
 use Rattle.graph.specs.Left.{Left, wipedBy, unlessRefused}
 use Rattle.graph.specs.Refusals.{firstRefusal, endsTests}
 
--- 1 if it holds, else 0
-abbrev pub one : Bool → ℕ
-one true = 1
-one false = 0
-
 -- how many ends of the edges are v; `froms` and `tos` say which ends count. A self-loop has two ends at its node
 unfoldable pub endCount : Bool → Bool → List Edge → ℕ → ℕ
 endCount froms tos [] v = 0
-endCount froms tos (e ∷ es) v = one (froms && eqb (e .from) v) + one (tos && eqb (e .to) v) + endCount froms tos es v
+endCount froms tos (e ∷ es) v = oneIf (froms && eqb (e .from) v) + oneIf (tos && eqb (e .to) v) + endCount froms tos es v
 
 -- that number as a double: it is at most twice 32,768, so nothing is rounded
 abbrev pub endScore : Bool → Bool → List Edge → ℕ → Float

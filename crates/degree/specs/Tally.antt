@@ -2,15 +2,12 @@
 use mathlib.Core.List.{List, [], _∷_, foldl}
 use Prim.Native.Nat.{ℕ, _≤_, _<_}
 use lib.ListN.{length, getD, set, take}
-use lib.Ieee.{Float, binary64, nan, ofBits, add}
-
--- 1.0
-abbrev pub oneF : Float
-oneF = ofBits binary64 0x3ff0_0000_0000_0000
+use lib.Ieee.{Float, binary64, nan, add}
+use Rattle.regions.specs.Doubles.{one}
 
 -- the scores with one more at v
 abbrev pub plusOne : List Float → ℕ → List Float
-plusOne w v = set w v (add binary64 (getD w v nan) oneF)
+plusOne w v = set w v (add binary64 (getD w v nan) one)
 
 -- the scores with one more at each of the first `many` ends
 unfoldable pub tally : List ℕ → ℕ → List Float → List Float

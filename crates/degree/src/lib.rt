@@ -1,13 +1,13 @@
 // Degree centralities: the ends of the edges counted for each node, raw counts as doubles. No workspace; no weight is read.
 // Each call refuses SIZE, NODE, ROOM, in this order.
-use graph::Answer;
-use graph::Plain;
-use graph::Refusal;
+use answers::Answer;
+use answers::Plain;
+use answers::Refusal;
 ghost use mathlib.Core.Path.{_≡_};
 ghost use mathlib.Core.Bool.{cond, false, true};
 ghost use mathlib.Core.List.{[]};
 ghost use lib.Dec.{ltb};
-ghost use Rattle.graph.specs.Answers.{saidPlain};
+ghost use Rattle.answers.specs.Answers.{saidPlain};
 ghost use Rattle.graph.specs.Given.{given};
 ghost use Rattle.graph.specs.Left.{left};
 ghost use Rattle.graph.specs.Refusals.{firstRefusal, endsTests};
@@ -70,7 +70,7 @@ fn count_ends(
     ensures { λ r. ⌜ left (saidPlain r) (now (scores .exit)) [] [] [] ≡ endsOutcome froms tos (given nodes directed (now (from .entry)) (now (to .entry)) (now (weight .entry)) (now (scores .entry)) [] [] []) ⌝ }
 {
     let answer = refusal(nodes, from, to, weight, scores.len());
-    if graph::refuses(answer) {
+    if answers::refuses(answer) {
         return Plain::Refused(Refusal { answer });
     }
     let edges = from.len();
@@ -87,7 +87,7 @@ fn refusal(nodes: usize, from: &[u32], to: &[u32], weight: &[f64], room: usize) 
     ensures { λ r. ⌜ r ≡ firstRefusal (endsTests nodes (now (from .entry)) (now (to .entry)) (now (weight .entry)) false false (ltb room nodes)) ⌝ }
 {
     let answer = graph::graph_refusal(nodes, from, to, weight, false, false);
-    if graph::refuses(answer) {
+    if answers::refuses(answer) {
         return answer;
     }
     if room < nodes {

@@ -10,10 +10,10 @@ use lib.ListN.{length}
 use lib.Ieee.{Float}
 use Rattle.regions.specs.Region.{over}
 use Rattle.regions.proofs.Fronts.{front-none}
-use Rattle.graph.specs.declared.Answer.{Answer}
-use Rattle.graph.specs.declared.Answer.the-variants.{Paths}
+use Rattle.answers.specs.declared.Answer.{Answer}
+use Rattle.answers.specs.declared.Answer.the-variants.{Paths}
 use Rattle.graph.specs.declared.Fronts.{Fronts}
-use Rattle.graph.specs.Answers.{Said, done, refuses, refusedWith}
+use Rattle.answers.specs.Answers.{Said, done, refuses, refusedWith}
 use Rattle.graph.specs.Edges.{edgesOf}
 use Rattle.graph.specs.Fronts.{usualFronts}
 use Rattle.graph.specs.Given.{Given, graphIn}

@@ -6,8 +6,8 @@ use lib.Dec.{ltb}
 use lib.ListN.{length}
 use lib.Ieee.{Float}
 use Rattle.regions.specs.Region.{over}
-use Rattle.graph.specs.declared.Answer.the-variants.{Paths}
-use Rattle.graph.specs.Answers.{Said, done}
+use Rattle.answers.specs.declared.Answer.the-variants.{Paths}
+use Rattle.answers.specs.Answers.{Said, done}
 use Rattle.graph.specs.Edges.{Edge, Graph}
 use Rattle.graph.specs.Given.{Given, graphIn}
 use Rattle.graph.specs.Refusals.{plainly}

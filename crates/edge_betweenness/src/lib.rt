@@ -1,11 +1,11 @@
 // Betweenness of the edges (Brandes 2001).
-use graph::Answer;
-use graph::Plain;
-use graph::Refusal;
+use answers::Answer;
+use answers::Plain;
+use answers::Refusal;
 ghost use mathlib.Core.Path.{_≡_};
 ghost use mathlib.Core.Bool.{not, _&&_, _||_};
 ghost use lib.Dec.{ltb};
-ghost use Rattle.graph.specs.Answers.{saidPlain};
+ghost use Rattle.answers.specs.Answers.{saidPlain};
 ghost use Rattle.graph.specs.Given.{given};
 ghost use Rattle.graph.specs.Left.{left};
 ghost use Rattle.edge_betweenness.specs.Edges.{edgeScores, edgeBetweennessOutcome};
@@ -42,7 +42,7 @@ pub fn edge_betweenness(
         w64.len(),
         wf.len(),
     );
-    if graph::refuses(answer) {
+    if answers::refuses(answer) {
         return Plain::Refused(Refusal { answer });
     }
     let many = score_edges(

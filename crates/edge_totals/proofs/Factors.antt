@@ -9,10 +9,10 @@ use borrow.Author.Tests.{lt-ltb}
 use lib.Dec.{ltb}
 use lib.ListN.{length, getD, set}
 use lib.Ieee.{Float, nan, binary64, mul, div}
+use Rattle.regions.specs.Doubles.{double, one, two}
 use Rattle.regions.proofs.Frames.{frame-none, frame-set, frame-wide, store-more}
 use Rattle.graph.specs.Layout.{totalsAt}
-use Rattle.brandes.specs.Shares.{one, double}
-use Rattle.crossings.specs.Totals.{two, scaledTotal}
+use Rattle.crossings.specs.Totals.{scaledTotal}
 use Rattle.edge_totals.specs.Writes.{Multiplied, TotalsScaled}
 
 -- ---- one float after the other

@@ -7,7 +7,7 @@ use lib.ListN.{length, getD}
 use lib.Ieee.{Float, nan, binary64, mul}
 use Rattle.regions.specs.Region.{over, Front, Frame}
 use Rattle.graph.specs.Edges.{Graph, edgesOf}
-use Rattle.graph.specs.Settings.{nodeLimit}
+use Rattle.answers.specs.Settings.{nodeLimit}
 use Rattle.graph.specs.Fronts.{usualFronts}
 use Rattle.graph.specs.Pres.{Sound}
 use Rattle.graph.specs.Layout.{besideAt, distancesAt, totalsAt}

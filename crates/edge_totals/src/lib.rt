@@ -4,9 +4,8 @@ ghost use mathlib.Core.Bool.{cond};
 ghost use Prim.Native.Nat.{_+_, _*_, _-_, _≤_, _<_};
 ghost use lib.ListN.{length};
 ghost use lib.Ieee.{binary64, div};
-ghost use Rattle.graph.specs.Settings.{nodeLimit};
-ghost use Rattle.brandes.specs.Shares.{one, double};
-ghost use Rattle.crossings.specs.Totals.{two};
+ghost use Rattle.regions.specs.Doubles.{double, one, two};
+ghost use Rattle.answers.specs.Settings.{nodeLimit};
 ghost use Rattle.edge_totals.specs.Writes.{EdgesPre, EdgesPost, Multiplied, ScalePre, TotalsScaled};
 
 // The results out of the workspace: the totals scaled in their place, then each edge's, by cursors that stand where the rows begin.

@@ -14,11 +14,11 @@ use Rattle.regions.proofs.Fronts.{front-then}
 use Rattle.regions.proofs.Frames.{frame-front}
 use Rattle.regions.proofs.Parts.{list-at, part-is}
 use Rattle.roots.specs.Root.{sqrtOf}
-use Rattle.graph.specs.declared.Answer.{Answer}
-use Rattle.graph.specs.declared.Settings.{Settings}
-use Rattle.graph.specs.declared.Rounds.{Rounds}
+use Rattle.answers.specs.declared.Answer.{Answer}
+use Rattle.answers.specs.declared.Settings.{Settings}
+use Rattle.answers.specs.declared.Rounds.{Rounds}
 use Rattle.graph.specs.declared.Fronts.{Fronts}
-use Rattle.graph.specs.Answers.{Said}
+use Rattle.answers.specs.Answers.{Said}
 use Rattle.graph.specs.Checks.{numberWrong}
 use Rattle.graph.specs.Edges.{edgesOf}
 use Rattle.graph.specs.Fronts.{usualFronts}

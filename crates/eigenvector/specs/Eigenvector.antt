@@ -8,11 +8,12 @@ use lib.IntN.{pos}
 use lib.ListN.{length}
 use lib.Ieee.{Float, binary64, ofBits, ofInt, add, div, lt}
 use lib.Ieee.Scale.{finite}
+use Rattle.regions.specs.Doubles.{one}
 use Rattle.regions.specs.Region.{zeroF, listOf}
 use Rattle.roots.specs.Root.{sqrtOf}
-use Rattle.graph.specs.declared.Settings.{Settings}
-use Rattle.graph.specs.declared.Rounds.{Rounds}
-use Rattle.graph.specs.Answers.{Said}
+use Rattle.answers.specs.declared.Settings.{Settings}
+use Rattle.answers.specs.declared.Rounds.{Rounds}
+use Rattle.answers.specs.Answers.{Said}
 use Rattle.graph.specs.Edges.{Edge, Graph}
 use Rattle.graph.specs.Given.{Given, graphIn}
 use Rattle.graph.specs.Checks.{numberWrong}
@@ -23,10 +24,6 @@ use Rattle.rounds.specs.Rounds.{after, Round, round, Out, outcome}
 use Rattle.rounds.specs.Tests.{iterativeTests}
 use Rattle.rounds.specs.Ending.{settledOnly}
 use Rattle.rounds.specs.Vectors.{entry, spreads, squared, settles}
-
--- 1.0
-abbrev pub one : Float
-one = ofBits binary64 0x3ff0_0000_0000_0000
 
 -- the double nearest to 1e-10: a norm below it ends the rounds
 abbrev pub tiny : Float

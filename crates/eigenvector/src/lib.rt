@@ -1,8 +1,8 @@
 // Eigenvector centrality: power iteration on the edges and the identity, from the uniform unit vector.
-use graph::Ended;
-use graph::Refusal;
-use graph::Rounds;
-use graph::Settings;
+use answers::Ended;
+use answers::Refusal;
+use answers::Rounds;
+use answers::Settings;
 use rounds::Own;
 ghost use mathlib.Core.Path.{_≡_};
 ghost use mathlib.Core.Bool.{not, _||_};
@@ -10,7 +10,7 @@ ghost use mathlib.Core.List.{foldl};
 ghost use Prim.Native.Nat.{_+_, _≤_};
 ghost use lib.ListN.{length};
 ghost use lib.Ieee.Scale.{finite};
-ghost use Rattle.graph.specs.Answers.{saidEnded};
+ghost use Rattle.answers.specs.Answers.{saidEnded};
 ghost use Rattle.graph.specs.Checks.{numberWrong};
 ghost use Rattle.graph.specs.Edges.{edgesOf};
 ghost use Rattle.graph.specs.Given.{given};
@@ -59,7 +59,7 @@ pub fn eigenvector(
         w64.len(),
         wf.len(),
     );
-    if graph::refuses(answer) {
+    if answers::refuses(answer) {
         return Ended::Refused(Refusal { answer });
     }
     let ended = run(nodes, directed, from, to, weight, settings, wf);

@@ -18,7 +18,7 @@ use Rattle.graph.specs.declared.Fault.the-variants.{Nothing, From, To}
 use Rattle.graph.specs.declared.Found.{Found}
 use Rattle.graph.specs.declared.Found.the-variants as bad
 use Rattle.graph.specs.declared.Fronts.{Fronts}
-use Rattle.graph.specs.Settings.{nodeLimit, edgeLimit}
+use Rattle.answers.specs.Settings.{nodeLimit, edgeLimit}
 use Rattle.graph.specs.Edges.{Edge, edge, edgesOf}
 use Rattle.graph.specs.Checks.{sizeWrong, firstFault, someFault, nodeWrong, firstOdd, someFound, numberWrong, workWrong}
 use Rattle.graph.specs.Pres.{Sized, AtMost, Limits, Inside, Roomy}

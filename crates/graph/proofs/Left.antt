@@ -5,8 +5,8 @@ use mathlib.Core.Bool.{Bool, true, false}
 use mathlib.Core.List.{List}
 use Prim.Native.Nat.{ℕ}
 use lib.Ieee.{Float}
-use Rattle.graph.specs.declared.Answer.{Answer}
-use Rattle.graph.specs.Answers.{Said, numberSaid, refuses, refusedWith}
+use Rattle.answers.specs.declared.Answer.{Answer}
+use Rattle.answers.specs.Answers.{Said, numberSaid, refuses, refusedWith}
 use Rattle.graph.specs.Refusals.{Tests, firstRefusal}
 use Rattle.graph.specs.Pres.{Passed}
 use Rattle.graph.specs.Given.{Given}

@@ -11,9 +11,9 @@ use borrow.Author.Tests.{eqb-true, eqb-false, eq-eqb}
 use lib.Dec.{T, eqb}
 use lib.ListN.{length, getD}
 use lib.Ieee.{Float}
-use Rattle.graph.specs.declared.Answer.{Answer}
-use Rattle.graph.specs.declared.Answer.the-variants.{Done, Empty, Size, Node, Number, Room, Damping, Rounds, Start, Length, Paths, Unsettled, Text}
-use Rattle.graph.specs.Answers.{numberOf, refuses}
+use Rattle.answers.specs.declared.Answer.{Answer}
+use Rattle.answers.specs.declared.Answer.the-variants.{Done, Empty, Size, Node, Number, Room, Damping, Rounds, Start, Length, Paths, Unsettled, Text}
+use Rattle.answers.specs.Answers.{numberOf, refuses}
 use Rattle.graph.specs.Edges.{edgesOf}
 use Rattle.graph.specs.Fronts.{usualFronts}
 use Rattle.graph.specs.Given.{Given, edgesIn}

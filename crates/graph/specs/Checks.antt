@@ -11,7 +11,7 @@ use Rattle.graph.specs.declared.Fault.the-variants.{Nothing, From, To}
 use Rattle.graph.specs.declared.Found.{Found}
 use Rattle.graph.specs.declared.Found.the-variants as bad
 use Rattle.graph.specs.declared.Fronts.{Fronts}
-use Rattle.graph.specs.Settings.{nodeLimit, edgeLimit}
+use Rattle.answers.specs.Settings.{nodeLimit, edgeLimit}
 use Rattle.graph.specs.Edges.{Edge}
 
 -- SIZE: n > 4,096, m > 32,768, or edge slices of unequal length

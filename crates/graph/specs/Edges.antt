@@ -7,6 +7,11 @@ use lib.Dec.{eqb}
 use lib.Ieee.{Float, binary64, add}
 use Rattle.regions.specs.Region.{zeroF}
 
+-- 1 if it holds, else 0
+abbrev pub oneIf : Bool → ℕ
+oneIf true = 1
+oneIf false = 0
+
 -- an edge: its position in the lent slices, its ends and its weight
 pub record Edge : Type 0 where
   pub at : ℕ

@@ -6,9 +6,9 @@ use Prim.Native.Nat.{ℕ}
 use lib.ListN.{length}
 use lib.Ieee.{Float}
 use Rattle.regions.specs.Region.{cleared, zeroF}
-use Rattle.graph.specs.declared.Answer.{Answer}
+use Rattle.answers.specs.declared.Answer.{Answer}
 use Rattle.graph.specs.declared.Fronts.{Fronts}
-use Rattle.graph.specs.Answers.{Said, numberSaid, refuses, refusedWith}
+use Rattle.answers.specs.Answers.{Said, numberSaid, refuses, refusedWith}
 use Rattle.graph.specs.Given.{Given}
 use Rattle.graph.specs.Fronts.{usualFronts}
 

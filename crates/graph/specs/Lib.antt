@@ -1,5 +1,3 @@
-pub mod Answers
-pub mod Settings
 pub mod Edges
 pub mod Given
 pub mod Fronts

@@ -6,7 +6,7 @@ use Prim.Native.Nat.{ℕ, _≤_, _<_}
 use lib.ListN.{length, getD}
 use lib.Ieee.{Float}
 use Rattle.graph.specs.declared.Fronts.{Fronts}
-use Rattle.graph.specs.Settings.{nodeLimit, edgeLimit}
+use Rattle.answers.specs.Settings.{nodeLimit, edgeLimit}
 use Rattle.graph.specs.Fronts.{usualFronts}
 use Rattle.graph.specs.Refusals.{Tests}
 use Rattle.graph.specs.Given.{Given}

@@ -5,8 +5,8 @@ use Prim.Native.Nat.{ℕ}
 use lib.Dec.{eqb}
 use lib.ListN.{length}
 use lib.Ieee.{Float}
-use Rattle.graph.specs.declared.Answer.{Answer}
-use Rattle.graph.specs.declared.Answer.the-variants.{Done, Empty, Size, Node, Number, Room, Damping, Rounds, Start, Length}
+use Rattle.answers.specs.declared.Answer.{Answer}
+use Rattle.answers.specs.declared.Answer.the-variants.{Done, Empty, Size, Node, Number, Room, Damping, Rounds, Start, Length}
 use Rattle.graph.specs.Fronts.{usualFronts}
 use Rattle.graph.specs.Checks.{sizeWrong, nodeWrong, workWrong}
 use Rattle.graph.specs.Edges.{edgesOf}

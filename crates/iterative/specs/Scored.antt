@@ -4,9 +4,9 @@ use mathlib.Core.Bool.{false}
 use mathlib.Core.List.{List, []}
 use Prim.Native.Nat.{ℕ}
 use lib.Ieee.{Float}
-use Rattle.graph.specs.Answers.{Said}
+use Rattle.answers.specs.Answers.{Said}
 use Rattle.graph.specs.Left.{Left}
-use Rattle.graph.specs.declared.Rounds.{Rounds}
+use Rattle.answers.specs.declared.Rounds.{Rounds}
 use Rattle.lines.specs.declared.Measure.the-variants.{Pagerank, Personalized, Eigenvector, Katz}
 use Rattle.lines.specs.declared.Top.{Top}
 use Rattle.outcomes.specs.Lent.{Lent, givenScores}

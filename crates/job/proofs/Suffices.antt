@@ -8,9 +8,9 @@ use lib.Dec.{ltb}
 use lib.ListN.{length}
 use lib.Seq.{sets}
 use borrow.Author.Tests.{ltb-false}
-use Rattle.graph.specs.Answers.{done, refusedWith, numberOf}
-use Rattle.graph.specs.declared.Answer.the-variants.{Size, Room, Text}
-use Rattle.graph.specs.Settings.{jobNodeLimit, jobEdgeLimit}
+use Rattle.answers.specs.Answers.{done, refusedWith, numberOf}
+use Rattle.answers.specs.declared.Answer.the-variants.{Size, Room, Text}
+use Rattle.answers.specs.Settings.{jobNodeLimit, jobEdgeLimit}
 use Rattle.reader.specs.declared.Head.{Head}
 use Rattle.reader.specs.declared.Job.{Job}
 use Rattle.reader.specs.declared.Job.the-variants.{Asked, Fault}

@@ -9,9 +9,9 @@ use lib.ListN.{length, take, length-take}
 use lib.Dec.{ltb}
 use borrow.Author.Tests.{lt-ltb, le-ltb, ltb-false}
 use Rattle.text.specs.Written.{Written}
-use Rattle.graph.specs.declared.Answer.the-variants.{Size, Room, Text}
-use Rattle.graph.specs.Answers.{done, refusedWith, numberOf}
-use Rattle.graph.specs.Settings.{jobNodeLimit, jobEdgeLimit}
+use Rattle.answers.specs.declared.Answer.the-variants.{Size, Room, Text}
+use Rattle.answers.specs.Answers.{done, refusedWith, numberOf}
+use Rattle.answers.specs.Settings.{jobNodeLimit, jobEdgeLimit}
 use Rattle.reader.specs.declared.Head.{Head}
 use Rattle.reader.specs.declared.Job.{Job}
 use Rattle.reader.specs.declared.Job.the-variants.{Asked, Fault}

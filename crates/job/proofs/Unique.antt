@@ -2,9 +2,9 @@
 use mathlib.Core.Path.{_≡_, sym, ap, _∙_}
 use mathlib.Core.List.{List}
 use Prim.Native.Nat.{ℕ}
-use Rattle.graph.specs.declared.Answer.{Answer}
-use Rattle.graph.specs.Answers.{Said, refusal}
-use Rattle.graph.proofs.Said.{number-names}
+use Rattle.answers.specs.declared.Answer.{Answer}
+use Rattle.answers.specs.Answers.{Said, refusal}
+use Rattle.answers.proofs.Said.{number-names}
 use Rattle.job.specs.declared.Ran.{Ran}
 use Rattle.job.specs.declared.Ran.the-variants.{Written, Refused}
 use Rattle.job.specs.Run.{saidRan, RunLeft, runLeft, runOutcome}

@@ -3,7 +3,7 @@ use mathlib.Core.Path.{_≡_}
 use mathlib.Core.List.{List}
 use Prim.Native.Nat.{ℕ}
 use lib.ListN.{length}
-use Rattle.graph.specs.Settings.{jobEdgeLimit}
+use Rattle.answers.specs.Settings.{jobEdgeLimit}
 
 -- the slices of the edges are as long as a job may have edges
 pub record Stored (from to bits : List ℕ) : Type 0 where

@@ -6,9 +6,9 @@ use Prim.Native.Nat.{ℕ}
 use lib.Dec.{ltb}
 use lib.ListN.{length}
 use lib.Seq.{sets}
-use Rattle.graph.specs.declared.Answer.the-variants.{Size, Room, Text}
-use Rattle.graph.specs.Answers.{Said, done, refusedWith, numberOf}
-use Rattle.graph.specs.Settings.{jobNodeLimit, jobEdgeLimit}
+use Rattle.answers.specs.declared.Answer.the-variants.{Size, Room, Text}
+use Rattle.answers.specs.Answers.{Said, done, refusedWith, numberOf}
+use Rattle.answers.specs.Settings.{jobNodeLimit, jobEdgeLimit}
 use Rattle.reader.specs.declared.Head.{Head}
 use Rattle.reader.specs.declared.Job.{Job}
 use Rattle.reader.specs.declared.Job.the-variants.{Asked, Fault}

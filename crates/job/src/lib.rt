@@ -1,7 +1,7 @@
 // The command program's whole work, on slices: the bytes of a job in, the text of its answer out.
-use graph::Answer;
-use graph::Refusal;
-use graph::Settings;
+use answers::Answer;
+use answers::Refusal;
+use answers::Settings;
 use reader::Head;
 use reader::Job;
 ghost use mathlib.Core.Path.{_≡_};

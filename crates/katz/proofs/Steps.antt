@@ -9,11 +9,11 @@ use lib.Ieee.{Float, lt}
 use Rattle.regions.specs.Region.{zeroF, listOf}
 use Rattle.regions.proofs.Fronts.{front-then}
 use Rattle.roots.specs.Root.{sqrtOf}
-use Rattle.graph.specs.declared.Answer.{Answer}
-use Rattle.graph.specs.declared.Settings.{Settings}
-use Rattle.graph.specs.declared.Rounds.{Rounds}
+use Rattle.answers.specs.declared.Answer.{Answer}
+use Rattle.answers.specs.declared.Settings.{Settings}
+use Rattle.answers.specs.declared.Rounds.{Rounds}
 use Rattle.graph.specs.declared.Fronts.{Fronts}
-use Rattle.graph.specs.Answers.{Said}
+use Rattle.answers.specs.Answers.{Said}
 use Rattle.graph.specs.Edges.{edgesOf}
 use Rattle.graph.specs.Fronts.{usualFronts}
 use Rattle.graph.specs.Given.{Given, graphIn}

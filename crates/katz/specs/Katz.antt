@@ -5,11 +5,12 @@ use mathlib.Core.List.{List, foldl}
 use Prim.Native.Nat.{ℕ}
 use lib.Dec.{eqb}
 use lib.ListN.{length}
-use lib.Ieee.{Float, binary64, ofBits, mul}
+use lib.Ieee.{Float, binary64, mul}
+use Rattle.regions.specs.Doubles.{one}
 use Rattle.regions.specs.Region.{zeroF, listOf}
-use Rattle.graph.specs.declared.Settings.{Settings}
-use Rattle.graph.specs.declared.Rounds.{Rounds}
-use Rattle.graph.specs.Answers.{Said}
+use Rattle.answers.specs.declared.Settings.{Settings}
+use Rattle.answers.specs.declared.Rounds.{Rounds}
+use Rattle.answers.specs.Answers.{Said}
 use Rattle.graph.specs.Edges.{Edge, Graph}
 use Rattle.graph.specs.Given.{Given, graphIn}
 use Rattle.graph.specs.Refusals.{Tests, firstRefusal}
@@ -19,10 +20,6 @@ use Rattle.rounds.specs.Rounds.{Round, round, Out, outcome}
 use Rattle.rounds.specs.Tests.{readsWrong, lengthWrong, iterativeTests}
 use Rattle.rounds.specs.Ending.{settledOnly}
 use Rattle.rounds.specs.Vectors.{entry, spreads, settles}
-
--- 1.0
-abbrev pub one : Float
-one = ofBits binary64 0x3ff0_0000_0000_0000
 
 -- beta of a node: as given, else 1
 abbrev pub betaAt : Bool → List Float → ℕ → Float

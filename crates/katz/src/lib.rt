@@ -1,15 +1,15 @@
 // Katz centrality: the walks that leave a node, each step weakened by alpha.
-use graph::Ended;
-use graph::Refusal;
-use graph::Rounds;
-use graph::Settings;
+use answers::Ended;
+use answers::Refusal;
+use answers::Rounds;
+use answers::Settings;
 use rounds::Own;
 ghost use mathlib.Core.Path.{_≡_};
 ghost use mathlib.Core.Bool.{true};
 ghost use mathlib.Core.List.{foldl};
 ghost use Prim.Native.Nat.{_<_};
 ghost use lib.ListN.{length};
-ghost use Rattle.graph.specs.Answers.{saidEnded};
+ghost use Rattle.answers.specs.Answers.{saidEnded};
 ghost use Rattle.graph.specs.Edges.{edgesOf};
 ghost use Rattle.graph.specs.Given.{given as lent};
 ghost use Rattle.graph.specs.Left.{left};
@@ -57,7 +57,7 @@ pub fn katz(
         w64.len(),
         wf.len(),
     );
-    if graph::refuses(answer) {
+    if answers::refuses(answer) {
         return Ended::Refused(Refusal { answer });
     }
     let ended = run(nodes, directed, from, to, weight, settings, given, beta, wf);

@@ -8,7 +8,7 @@ use lib.Ieee.{Float}
 use Rattle.regions.specs.Region.{over, listOf}
 use Rattle.regions.proofs.Fronts.{list-same, front-none, front-wide}
 use Rattle.graph.specs.declared.Fronts.{Fronts}
-use Rattle.graph.specs.Answers.{done}
+use Rattle.answers.specs.Answers.{done}
 use Rattle.graph.specs.Edges.{neighbours}
 use Rattle.graph.specs.Given.{Given, edgesIn}
 use Rattle.graph.specs.Left.{left, wiped, Wiped}

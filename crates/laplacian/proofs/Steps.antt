@@ -12,7 +12,7 @@ use lib.Ieee.{Float}
 use Rattle.regions.specs.Region.{Front}
 use Rattle.regions.proofs.Fronts.{cleared-afterD}
 use Rattle.graph.specs.declared.Fronts.{Fronts}
-use Rattle.graph.specs.Answers.{Said}
+use Rattle.answers.specs.Answers.{Said}
 use Rattle.graph.specs.Fronts.{usualFronts}
 use Rattle.graph.specs.Given.{Given}
 use Rattle.graph.specs.Left.{left, wiped, Wiped}

@@ -7,7 +7,8 @@ use native.Mathlib.Omega.{arith}
 use lib.ListN.{length, getD, take}
 use lib.Seq.{take-suc, take-all}
 use lib.Ieee.{Float, binary64, add, mul}
-use Rattle.laplacian.specs.Laplacian.{two, entryCount, ownPart, withNeighbour, laplacianScore}
+use Rattle.regions.specs.Doubles.{two}
+use Rattle.laplacian.specs.Laplacian.{entryCount, ownPart, withNeighbour, laplacianScore}
 
 -- ---- a neighbour at a time
 module _ (rows : ℕ → List ℕ) (v : ℕ) where

@@ -5,17 +5,14 @@ use Prim.Native.Nat.{ℕ}
 use lib.Dec.{ltb}
 use lib.IntN.{pos}
 use lib.ListN.{length}
-use lib.Ieee.{Float, binary64, ofBits, ofInt, add, mul}
+use lib.Ieee.{Float, binary64, ofInt, add, mul}
+use Rattle.regions.specs.Doubles.{two}
 use Rattle.regions.specs.Region.{over, listOf}
-use Rattle.graph.specs.Answers.{Said, done}
+use Rattle.answers.specs.Answers.{Said, done}
 use Rattle.graph.specs.Edges.{neighbours}
 use Rattle.graph.specs.Given.{Given, edgesIn}
 use Rattle.graph.specs.Refusals.{plainly}
 use Rattle.graph.specs.Left.{Left, wiped, unlessRefused}
-
--- 2.0
-abbrev pub two : Float
-two = ofBits binary64 0x4000_0000_0000_0000
 
 -- the number of entries of v, in its nearest double
 abbrev pub entryCount : (ℕ → List ℕ) → ℕ → Float

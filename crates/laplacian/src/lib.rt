@@ -1,11 +1,11 @@
 // Laplacian centrality, of the Rust's other.rs. It reads the ends of the edges alone.
-use graph::Plain;
-use graph::Refusal;
+use answers::Plain;
+use answers::Refusal;
 ghost use mathlib.Core.Path.{_≡_};
 ghost use Prim.Native.Nat.{_≤_, _<_};
 ghost use lib.ListN.{length};
 ghost use Rattle.regions.specs.Region.{over, listOf};
-ghost use Rattle.graph.specs.Answers.{saidPlain};
+ghost use Rattle.answers.specs.Answers.{saidPlain};
 ghost use Rattle.graph.specs.Given.{given};
 ghost use Rattle.graph.specs.Left.{left};
 ghost use Rattle.rows.specs.Rows.{rowAt, RowsFit};
@@ -38,7 +38,7 @@ pub fn laplacian(
         w64.len(),
         wf.len(),
     );
-    if graph::refuses(answer) {
+    if answers::refuses(answer) {
         return Plain::Refused(Refusal { answer });
     }
     rows::build_rows(nodes, directed, from, to, weight, w32);

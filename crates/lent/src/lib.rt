@@ -1,11 +1,11 @@
 // What a replayed call is lent and what it leaves: slices of exactly the lengths that its record gives, and what it says.
-use graph::Elected;
-use graph::Ended;
-use graph::Plain;
+use answers::Elected;
+use answers::Ended;
+use answers::Plain;
 ghost use mathlib.Core.Path.{_≡_};
 ghost use lib.ListN.{take};
 ghost use Rattle.words.specs.Words.{wordAt};
-ghost use Rattle.graph.specs.Answers.{numberSaid, saidPlain};
+ghost use Rattle.answers.specs.Answers.{numberSaid, saidPlain};
 ghost use Rattle.lent.specs.Said.{Tells};
 
 // The longest slices that a record lends: results, and the three of the workspace.
@@ -93,7 +93,7 @@ pub fn plain(p: Plain) -> Said
     ensures { λ r. ⌜ (r .answer ≡ numberSaid (saidPlain p)) × (r .settled ≡ 0) × (r .rounds ≡ 0) × (r .elected ≡ 0) ⌝ }
 {
     Said {
-        answer: graph::plain_number(p) as u64,
+        answer: answers::plain_number(p) as u64,
         settled: 0,
         rounds: 0,
         elected: 0,

@@ -8,13 +8,14 @@ use native.Mathlib.Omega.{arith}
 use lib.Dec.{ltb}
 use lib.Ieee.{Float, Format, nan, inf, fin, binary64, prec, low, emax, up, down, odd, units, round, sum, add, sub, mul, neg, lt}
 use lib.Ieee.Scale.{finite}
+use Rattle.regions.specs.Doubles.{double}
 use Rattle.roots.specs.Absolute.{absOf}
 use Rattle.regions.specs.Region.{zeroF}
 use Rattle.regions.proofs.Cases.{same-or-not}
 use Rattle.rounds.specs.Rounds.{after}
 use Rattle.rounds.specs.Vectors.{entry}
 use Rattle.rounds.proofs.Finite.{sum-finite}
-use Rattle.links.specs.Links.{double, withChange, absoluteChange, settles}
+use Rattle.links.specs.Links.{withChange, absoluteChange, settles}
 
 never : {A : Type 0} → false ≡ true → A
 never e = absurd (true≢false (sym e))

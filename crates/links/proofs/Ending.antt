@@ -10,9 +10,9 @@ use Rattle.regions.specs.Region.{over, cleared, zeroF, listOf, Front}
 use Rattle.regions.proofs.Fronts.{list-same, cleared-after, cleared-afterD, front-wide, front-then}
 use Rattle.regions.proofs.Frames.{frame-front, frame-part}
 use Rattle.regions.proofs.Parts.{part-is}
-use Rattle.graph.specs.declared.Settings.{Settings}
-use Rattle.graph.specs.declared.Rounds.{Rounds}
-use Rattle.graph.specs.Answers.{done}
+use Rattle.answers.specs.declared.Settings.{Settings}
+use Rattle.answers.specs.declared.Rounds.{Rounds}
+use Rattle.answers.specs.Answers.{done}
 use Rattle.graph.specs.Edges.{edgesOf, outWeight}
 use Rattle.graph.specs.Fronts.{usualFronts}
 use Rattle.graph.specs.Given.{Given}

@@ -9,15 +9,16 @@ use borrow.Author.Tests.{eq-eqb, ne-eqb}
 use lib.Dec.{eqb}
 use lib.ListN.{length}
 use lib.Ieee.{Float, binary64, mul, lt}
+use Rattle.regions.specs.Doubles.{double}
 use Rattle.regions.specs.Region.{Front}
 use Rattle.regions.proofs.Fronts.{front-none, front-then}
-use Rattle.graph.specs.declared.Settings.{Settings}
-use Rattle.graph.specs.declared.Rounds.{Rounds}
+use Rattle.answers.specs.declared.Settings.{Settings}
+use Rattle.answers.specs.declared.Rounds.{Rounds}
 use Rattle.rounds.specs.Rounds.{Round, round, Out, outcomeFrom, outcome}
 use Rattle.rounds.specs.Vectors.{currentIn, nextIn, Vectors}
 use Rattle.rounds.proofs.Rounds.{rest, rounds-more, rounds-met, rounds-over, rounds-before}
 use Rattle.rounds.specs.Steps.{RoundsDone}
-use Rattle.links.specs.Links.{double, absoluteChange, settles}
+use Rattle.links.specs.Links.{absoluteChange, settles}
 use Rattle.links.specs.Steps.{LinksPre, Advanced, RoundDone}
 
 -- ---- one round

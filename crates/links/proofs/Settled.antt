@@ -12,10 +12,10 @@ use lib.Ieee.Scale.{finite}
 use Rattle.regions.specs.Region.{over}
 use Rattle.regions.proofs.Fronts.{list-long}
 use Rattle.regions.proofs.Parts.{over-at}
-use Rattle.graph.specs.declared.Answer.{Answer}
-use Rattle.graph.specs.declared.Settings.{Settings}
-use Rattle.graph.specs.declared.Rounds.{Rounds}
-use Rattle.graph.specs.Answers.{done, refusal, refuses, refusedWith}
+use Rattle.answers.specs.declared.Answer.{Answer}
+use Rattle.answers.specs.declared.Settings.{Settings}
+use Rattle.answers.specs.declared.Rounds.{Rounds}
+use Rattle.answers.specs.Answers.{done, refusal, refuses, refusedWith}
 use Rattle.graph.specs.Given.{Given}
 use Rattle.graph.specs.Left.{untouched, unlessRefused}
 use Rattle.lists.specs.Lists.{Share}

@@ -3,9 +3,9 @@
 use mathlib.Core.Bool.{Bool, cond}
 use mathlib.Core.List.{List, [], foldl}
 use Prim.Native.Nat.{ℕ, _+_}
-use lib.IntN.{pos}
 use lib.ListN.{length, getD, set}
-use lib.Ieee.{Float, nan, binary64, ofBits, ofInt, add, sub, mul, div, lt}
+use lib.Ieee.{Float, nan, binary64, add, sub, mul, div, lt}
+use Rattle.regions.specs.Doubles.{double, one}
 use Rattle.roots.specs.Absolute.{absOf}
 use Rattle.regions.specs.Region.{zeroF, listOf, part}
 use Rattle.graph.specs.Edges.{Graph, outWeight}
@@ -48,14 +48,6 @@ abbrev pub linksIn : ℕ → List ℕ → List Float → Links
 linksIn n w wf = record { nodes = n; outs = outsIn n wf; shares = listOf (sharesIn n w wf) n }
 
 -- ---- what a round does
-
--- 1.0
-abbrev pub one : Float
-one = ofBits binary64 0x3ff0_0000_0000_0000
-
--- n in its nearest double
-abbrev pub double : ℕ → Float
-double n = ofInt binary64 (pos n)
 
 -- y with the share's target grown by contribution*weight
 abbrev pub gives : Float → List Float → Share → List Float

@@ -6,9 +6,9 @@ use Prim.Native.Nat.{ℕ, _+_, _*_, _≤_, _<_}
 use lib.ListN.{length, getD}
 use lib.Ieee.{Float, nan}
 use Rattle.regions.specs.Region.{Front, Frame, part, over, cleared, zeroF}
-use Rattle.graph.specs.declared.Rounds.{Rounds}
+use Rattle.answers.specs.declared.Rounds.{Rounds}
 use Rattle.graph.specs.declared.Fronts.{Fronts}
-use Rattle.graph.specs.Answers.{Said, done}
+use Rattle.answers.specs.Answers.{Said, done}
 use Rattle.graph.specs.Edges.{edgesOf}
 use Rattle.graph.specs.Layout.{entriesAt, besideAt}
 use Rattle.graph.specs.Pres.{Sound}

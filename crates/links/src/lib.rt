@@ -1,20 +1,21 @@
 // What the two PageRanks share: the weighted lists with their out-weights, what a node gives along its list,
 // the vector that is divided by its sum, and how a call ends.
-use graph::Ended;
-use graph::Rounds;
+use answers::Ended;
+use answers::Rounds;
 ghost use mathlib.Core.Path.{_≡_};
 ghost use mathlib.Core.Bool.{cond, true};
 ghost use mathlib.Core.List.{foldl};
 ghost use Prim.Native.Nat.{_<_};
 ghost use lib.ListN.{length};
+ghost use Rattle.regions.specs.Doubles.{one};
 ghost use Rattle.regions.specs.Region.{listOf};
-ghost use Rattle.graph.specs.Answers.{saidEnded};
+ghost use Rattle.answers.specs.Answers.{saidEnded};
 ghost use Rattle.graph.specs.Fronts.{usualFronts};
 ghost use Rattle.graph.specs.Pres.{Limits};
 ghost use Rattle.graph.specs.Left.{left};
 ghost use Rattle.rounds.specs.Ending.{WritePre};
 ghost use Rattle.rounds.specs.Vectors.{entry, currentIn, nextIn, Vectors};
-ghost use Rattle.links.specs.Links.{sharesIn, one, gives, sumOf, divisorOf, dividedAt};
+ghost use Rattle.links.specs.Links.{sharesIn, gives, sumOf, divisorOf, dividedAt};
 ghost use Rattle.links.specs.Steps.{LinksPre, PreparePre, Prepared, CopyPre, WeightsCopied, writtenBy, DividePre, Divided};
 
 // Builds the weighted lists, the out-weights from them, and beside them the weights of the entries.

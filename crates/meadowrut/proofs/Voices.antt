@@ -3,7 +3,7 @@ use mathlib.Core.Path.{_≡_, sym, ap, _∙_}
 use mathlib.Core.List.{List, []}
 use Prim.Native.Nat.{ℕ}
 use lib.Ieee.{Float}
-use Rattle.graph.specs.Answers.{Said}
+use Rattle.answers.specs.Answers.{Said}
 use Rattle.graph.specs.Left.{Left, left}
 use Rattle.graph.proofs.Left.{no-second}
 use Rattle.job.specs.Run.{RunLeft, runLeft}

@@ -5,7 +5,7 @@ ghost use mathlib.Core.List.{[]};
 ghost use Rattle.roots.specs.Root.{sqrtOf, SquareRoot};
 ghost use Rattle.roots.specs.Absolute.{absOf};
 ghost use Rattle.roots.specs.Maximum.{maxOf};
-ghost use Rattle.graph.specs.Settings.{usualSettings};
+ghost use Rattle.answers.specs.Settings.{usualSettings};
 ghost use Rattle.graph.specs.Given.{given};
 ghost use Rattle.graph.specs.Given.{given as lent};
 ghost use Rattle.graph.specs.Left.{left, inNumbers};
@@ -52,7 +52,7 @@ pub extern "C" fn meadowrut_max(x: f64, y: f64) -> f64
 pub extern "C" fn meadowrut_usual() -> Settings
     ensures { λ r. ⌜ r ≡ returned usualSettings ⌝ }
 {
-    let usual = graph::Settings::usual();
+    let usual = answers::Settings::usual();
     Settings {
         damping: usual.damping,
         tolerance: usual.tolerance,
@@ -71,7 +71,7 @@ pub extern "C" fn meadowrut_degree(
 ) -> u32
     ensures { λ r. ⌜ left r (now (scores .exit)) [] [] [] ≡ inNumbers (degreeOutcome (given nodes (raised directed) (now (from .entry)) (now (to .entry)) (now (weight .entry)) (now (scores .entry)) [] [] [])) ⌝ }
 {
-    graph::plain_number(degree::degree(nodes, directed != 0, from, to, weight, scores))
+    answers::plain_number(degree::degree(nodes, directed != 0, from, to, weight, scores))
 }
 
 #[no_mangle]
@@ -85,7 +85,7 @@ pub extern "C" fn meadowrut_in_degree(
 ) -> u32
     ensures { λ r. ⌜ left r (now (scores .exit)) [] [] [] ≡ inNumbers (inDegreeOutcome (given nodes (raised directed) (now (from .entry)) (now (to .entry)) (now (weight .entry)) (now (scores .entry)) [] [] [])) ⌝ }
 {
-    graph::plain_number(degree::in_degree(nodes, directed != 0, from, to, weight, scores))
+    answers::plain_number(degree::in_degree(nodes, directed != 0, from, to, weight, scores))
 }
 
 #[no_mangle]
@@ -99,7 +99,7 @@ pub extern "C" fn meadowrut_out_degree(
 ) -> u32
     ensures { λ r. ⌜ left r (now (scores .exit)) [] [] [] ≡ inNumbers (outDegreeOutcome (given nodes (raised directed) (now (from .entry)) (now (to .entry)) (now (weight .entry)) (now (scores .entry)) [] [] [])) ⌝ }
 {
-    graph::plain_number(degree::out_degree(nodes, directed != 0, from, to, weight, scores))
+    answers::plain_number(degree::out_degree(nodes, directed != 0, from, to, weight, scores))
 }
 
 #[no_mangle]
@@ -118,7 +118,7 @@ pub extern "C" fn meadowrut_survey(
 ) -> u32
     ensures { λ r. ⌜ left r (results (now (distances .exit)) (now (counts .exit))) (now (w32 .exit)) (now (w64 .exit)) (now (wf .exit)) ≡ inNumbers (surveyOutcome start (given nodes (raised directed) (now (from .entry)) (now (to .entry)) (now (weight .entry)) (results (now (distances .entry)) (now (counts .entry))) (now (w32 .entry)) (now (w64 .entry)) (now (wf .entry)))) ⌝ }
 {
-    graph::plain_number(survey::survey(
+    answers::plain_number(survey::survey(
         nodes,
         directed != 0,
         from,
@@ -148,7 +148,7 @@ pub extern "C" fn meadowrut_betweenness(
 ) -> u32
     ensures { λ r. ⌜ left r (now (scores .exit)) (now (w32 .exit)) (now (w64 .exit)) (now (wf .exit)) ≡ inNumbers (betweennessOutcome (raised normalized) (given nodes (raised directed) (now (from .entry)) (now (to .entry)) (now (weight .entry)) (now (scores .entry)) (now (w32 .entry)) (now (w64 .entry)) (now (wf .entry)))) ⌝ }
 {
-    graph::plain_number(betweenness::betweenness(
+    answers::plain_number(betweenness::betweenness(
         nodes,
         directed != 0,
         from,
@@ -178,7 +178,7 @@ pub extern "C" fn meadowrut_edge_betweenness(
 ) -> u32
     ensures { λ r. ⌜ left r (edgeScores (now (forward .exit)) (now (back .exit))) (now (w32 .exit)) (now (w64 .exit)) (now (wf .exit)) ≡ inNumbers (edgeBetweennessOutcome (raised normalized) (given nodes (raised directed) (now (from .entry)) (now (to .entry)) (now (weight .entry)) (edgeScores (now (forward .entry)) (now (back .entry))) (now (w32 .entry)) (now (w64 .entry)) (now (wf .entry)))) ⌝ }
 {
-    graph::plain_number(edge_betweenness::edge_betweenness(
+    answers::plain_number(edge_betweenness::edge_betweenness(
         nodes,
         directed != 0,
         from,
@@ -208,7 +208,7 @@ pub extern "C" fn meadowrut_local_reaching(
 ) -> u32
     ensures { λ r. ⌜ left r (now (scores .exit)) (now (w32 .exit)) (now (w64 .exit)) (now (wf .exit)) ≡ inNumbers (reachingOutcome hops (given nodes (raised directed) (now (from .entry)) (now (to .entry)) (now (weight .entry)) (now (scores .entry)) (now (w32 .entry)) (now (w64 .entry)) (now (wf .entry)))) ⌝ }
 {
-    graph::plain_number(reaching::local_reaching(
+    answers::plain_number(reaching::local_reaching(
         nodes,
         directed != 0,
         from,
@@ -236,7 +236,7 @@ pub extern "C" fn meadowrut_global_reaching(
 ) -> u32
     ensures { λ r. ⌜ left r (now (scores .exit)) (now (w32 .exit)) (now (w64 .exit)) (now (wf .exit)) ≡ inNumbers (globalOutcome (given nodes (raised directed) (now (from .entry)) (now (to .entry)) (now (weight .entry)) (now (scores .entry)) (now (w32 .entry)) (now (w64 .entry)) (now (wf .entry)))) ⌝ }
 {
-    graph::plain_number(reaching::global_reaching(
+    answers::plain_number(reaching::global_reaching(
         nodes,
         directed != 0,
         from,
@@ -263,7 +263,7 @@ pub extern "C" fn meadowrut_laplacian(
 ) -> u32
     ensures { λ r. ⌜ left r (now (scores .exit)) (now (w32 .exit)) (now (w64 .exit)) (now (wf .exit)) ≡ inNumbers (laplacianOutcome (given nodes (raised directed) (now (from .entry)) (now (to .entry)) (now (weight .entry)) (now (scores .entry)) (now (w32 .entry)) (now (w64 .entry)) (now (wf .entry)))) ⌝ }
 {
-    graph::plain_number(laplacian::laplacian(
+    answers::plain_number(laplacian::laplacian(
         nodes,
         directed != 0,
         from,

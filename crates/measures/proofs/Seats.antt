@@ -8,7 +8,7 @@ use lib.Dec.{ltb}
 use lib.ListN.{length, length-append}
 use lib.Ieee.{Float, lt}
 use Rattle.regions.specs.Region.{zeroF, over}
-use Rattle.graph.specs.Answers.{done, refuses, refusedWith}
+use Rattle.answers.specs.Answers.{done, refuses, refusedWith}
 use Rattle.graph.specs.Edges.{Graph}
 use Rattle.graph.specs.Given.{Given, graphIn}
 use Rattle.graph.specs.Left.{untouched, wiped}

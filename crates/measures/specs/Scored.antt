@@ -4,7 +4,7 @@ use mathlib.Core.List.{List}
 use Prim.Native.Nat.{ℕ}
 use lib.Dec.{eqb}
 use lib.Ieee.{Float}
-use Rattle.graph.specs.Answers.{Said}
+use Rattle.answers.specs.Answers.{Said}
 use Rattle.graph.specs.Left.{Left}
 use Rattle.lines.specs.declared.Measure.the-variants.{Betweenness, Reaching, Laplacian, Degree}
 use Rattle.lines.specs.declared.Top.{Top}

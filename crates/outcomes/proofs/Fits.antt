@@ -5,10 +5,10 @@ use Prim.Native.Nat.{ℕ, _≤_}
 use native.Mathlib.Omega.{arith}
 use lib.ListN.{length, take, length-take}
 use lib.Ieee.{Float}
-use Rattle.graph.specs.Answers.{Said, done, refusal}
-use Rattle.graph.specs.declared.Rounds.{Rounds}
+use Rattle.answers.specs.Answers.{Said, done, refusal}
+use Rattle.answers.specs.declared.Rounds.{Rounds}
 use Rattle.graph.specs.Left.{Left}
-use Rattle.graph.specs.Settings.{jobNodeLimit}
+use Rattle.answers.specs.Settings.{jobNodeLimit}
 use Rattle.lines.specs.declared.Measure.{Measure}
 use Rattle.reply.specs.declared.Settled.the-variants.{Neither}
 use Rattle.reply.specs.Reply.{refusalText}

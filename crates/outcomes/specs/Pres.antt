@@ -2,7 +2,7 @@
 use mathlib.Core.List.{List}
 use Prim.Native.Nat.{ℕ, _≤_}
 use lib.ListN.{length}
-use Rattle.graph.specs.Settings.{jobNodeLimit}
+use Rattle.answers.specs.Settings.{jobNodeLimit}
 use Rattle.outcomes.specs.Texts.{outputRoom}
 
 -- the output has room for every answer

@@ -5,10 +5,10 @@ use mathlib.Core.List.{List}
 use Prim.Native.Nat.{ℕ}
 use lib.ListN.{take}
 use lib.Ieee.{Float, binary64, ofBits}
-use Rattle.graph.specs.Answers.{Said, done, refusal}
+use Rattle.answers.specs.Answers.{Said, done, refusal}
 use Rattle.graph.specs.Left.{Left}
-use Rattle.graph.specs.declared.Rounds.{Rounds}
-use Rattle.graph.specs.declared.Settings.{Settings}
+use Rattle.answers.specs.declared.Rounds.{Rounds}
+use Rattle.answers.specs.declared.Settings.{Settings}
 use Rattle.lines.specs.declared.Measure.{Measure}
 use Rattle.lines.specs.declared.Top.{Top}
 use Rattle.reply.specs.declared.Settled.{Settled}

@@ -1,9 +1,9 @@
 // What a call said, written to the output as the answer's text; and the settings that a job asks for.
-use graph::Answer;
-use graph::Elected;
-use graph::Ended;
-use graph::Plain;
-use graph::Settings;
+use answers::Answer;
+use answers::Elected;
+use answers::Ended;
+use answers::Plain;
+use answers::Settings;
 use lines::Measure;
 use lines::Top;
 use reply::Settled;
@@ -11,7 +11,7 @@ ghost use mathlib.Core.Path.{_≡_};
 ghost use Prim.Native.Nat.{min};
 ghost use lib.ListN.{length};
 ghost use Rattle.text.specs.Written.{Written};
-ghost use Rattle.graph.specs.Answers.{numberOf, saidPlain, saidEnded, saidElected};
+ghost use Rattle.answers.specs.Answers.{numberOf, saidPlain, saidEnded, saidElected};
 ghost use Rattle.reply.specs.Reply.{refusalText};
 ghost use Rattle.outcomes.specs.Texts.{settledIs, settingsOf, plainText, endedText, electedText};
 ghost use Rattle.outcomes.specs.Pres.{Room, Fits, Few};
@@ -105,7 +105,7 @@ pub fn put_refusal(output: &mut [u8], answer: Answer, line: u64) -> usize
     requires { ⌜ Room (now output) ⌝ }
     ensures { λ r. ⌜ Written (refusalText (numberOf answer) line) (now (output .entry)) 0 (now (output .exit)) r ⌝ }
 {
-    reply::put_refusal(output, 0, graph::number(answer) as u64, line)
+    reply::put_refusal(output, 0, answers::number(answer) as u64, line)
 }
 
 // The smaller of two numbers.

@@ -10,10 +10,10 @@ use lib.Ieee.{Float, nan}
 use Rattle.regions.specs.Region.{listOf, Front}
 use Rattle.regions.proofs.Fronts.{front-wide, front-then}
 use Rattle.regions.proofs.Frames.{frame-front, frame-part}
-use Rattle.graph.specs.declared.Answer.{Answer}
-use Rattle.graph.specs.declared.Settings.{Settings}
-use Rattle.graph.specs.declared.Rounds.{Rounds}
-use Rattle.graph.specs.Answers.{Said}
+use Rattle.answers.specs.declared.Answer.{Answer}
+use Rattle.answers.specs.declared.Settings.{Settings}
+use Rattle.answers.specs.declared.Rounds.{Rounds}
+use Rattle.answers.specs.Answers.{Said}
 use Rattle.graph.specs.Fronts.{usualFronts}
 use Rattle.graph.specs.Given.{Given, graphIn}
 use Rattle.graph.specs.Left.{Left}

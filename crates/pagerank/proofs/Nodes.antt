@@ -7,13 +7,14 @@ use Prim.Native.Nat.{ℕ, _+_, _*_, _≤_, _<_, zero, suc}
 use native.Mathlib.Omega.{arith}
 use lib.ListN.{length, getD, set}
 use lib.Ieee.{Float, nan, binary64, add, sub, mul, div, lt, eq}
+use Rattle.regions.specs.Doubles.{double, one}
 use Rattle.regions.specs.Region.{zeroF, listOf, Front, Filled, Copied}
 use Rattle.regions.proofs.Cases.{same-or-not}
 use Rattle.regions.proofs.Frames.{frame-front, frame-part, filled-part, copied-none, copied-more}
 use Rattle.rounds.specs.Rounds.{after, round}
 use Rattle.rounds.specs.Vectors.{entry, currentIn, nextIn, Vectors}
 use Rattle.rounds.proofs.Vectors.{vectors-then, vectors-are, current-at, next-at}
-use Rattle.links.specs.Links.{Links, linksIn, sharesIn, outsIn, one, double, gives, settles, withChange, absoluteChange}
+use Rattle.links.specs.Links.{Links, linksIn, sharesIn, outsIn, gives, settles, withChange, absoluteChange}
 use Rattle.links.specs.Steps.{LinksPre, Advanced, RoundDone}
 use Rattle.links.proofs.Turns.{vectors-none, links-kept, out-at, distributed, outs-kept}
 use Rattle.links.proofs.Rounds.{pre-kept, advanced-round}

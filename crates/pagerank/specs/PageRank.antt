@@ -5,11 +5,12 @@ use Prim.Native.Nat.{ℕ}
 use lib.Dec.{eqb, ltb}
 use lib.ListN.{length}
 use lib.Ieee.{Float, binary64, ofBits, add, sub, mul, div, lt, eq}
+use Rattle.regions.specs.Doubles.{double, one}
 use Rattle.roots.specs.Absolute.{absOf}
 use Rattle.regions.specs.Region.{zeroF, listOf}
-use Rattle.graph.specs.declared.Settings.{Settings}
-use Rattle.graph.specs.declared.Rounds.{Rounds}
-use Rattle.graph.specs.Answers.{Said}
+use Rattle.answers.specs.declared.Settings.{Settings}
+use Rattle.answers.specs.declared.Rounds.{Rounds}
+use Rattle.answers.specs.Answers.{Said}
 use Rattle.graph.specs.Given.{Given, graphIn}
 use Rattle.graph.specs.Refusals.{Tests, firstRefusal}
 use Rattle.graph.specs.Left.{Left, unlessRefused}
@@ -18,7 +19,7 @@ use Rattle.rounds.specs.Rounds.{after, Round, round, Out, outcome}
 use Rattle.rounds.specs.Tests.{readsWrong, lengthWrong, iterativeTests}
 use Rattle.rounds.specs.Ending.{scored}
 use Rattle.rounds.specs.Vectors.{entry}
-use Rattle.links.specs.Links.{Links, linksOf, one, double, distributes, settles, divisorOf, divided}
+use Rattle.links.specs.Links.{Links, linksOf, distributes, settles, divisorOf, divided}
 
 -- ---- a round
 

@@ -1,14 +1,14 @@
 // PageRank: scores that nodes pass on along their weighted lists, round by round.
-use graph::Ended;
-use graph::Refusal;
-use graph::Rounds;
-use graph::Settings;
+use answers::Ended;
+use answers::Refusal;
+use answers::Rounds;
+use answers::Settings;
 use rounds::Own;
 ghost use mathlib.Core.Path.{_≡_};
 ghost use Prim.Native.Nat.{_*_, _<_, _≤_};
 ghost use lib.Dec.{eqb};
 ghost use lib.ListN.{length};
-ghost use Rattle.graph.specs.Answers.{saidEnded};
+ghost use Rattle.answers.specs.Answers.{saidEnded};
 ghost use Rattle.graph.specs.Given.{given as lent};
 ghost use Rattle.graph.specs.Left.{left};
 ghost use Rattle.rounds.specs.Steps.{RoundsDone};
@@ -60,7 +60,7 @@ pub fn pagerank(
         w64.len(),
         wf.len(),
     );
-    if graph::refuses(answer) {
+    if answers::refuses(answer) {
         return Ended::Refused(Refusal { answer });
     }
     links::prepare(nodes, directed, from, to, weight, w32, wf);

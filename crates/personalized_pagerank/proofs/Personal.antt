@@ -8,15 +8,16 @@ use borrow.Author.Tests.{eqb-false}
 use lib.Dec.{eqb}
 use lib.ListN.{length, getD, set}
 use lib.Ieee.{Float, nan, binary64, add, sub, mul, div, lt}
+use Rattle.regions.specs.Doubles.{double, one}
 use Rattle.roots.specs.Absolute.{absOf}
 use Rattle.regions.specs.Region.{zeroF, listOf, Front, Copied, Apart}
 use Rattle.regions.proofs.Parts.{part-at, part-is, part-list}
 use Rattle.regions.proofs.Fronts.{missD, front-then, front-wide}
 use Rattle.regions.proofs.Frames.{frame-front, frame-part}
-use Rattle.graph.specs.declared.Answer.{Answer}
-use Rattle.graph.specs.declared.Settings.{Settings}
-use Rattle.graph.specs.declared.Rounds.{Rounds}
-use Rattle.graph.specs.Answers.{Said}
+use Rattle.answers.specs.declared.Answer.{Answer}
+use Rattle.answers.specs.declared.Settings.{Settings}
+use Rattle.answers.specs.declared.Rounds.{Rounds}
+use Rattle.answers.specs.Answers.{Said}
 use Rattle.graph.specs.Fronts.{usualFronts}
 use Rattle.graph.specs.Given.{Given, graphIn}
 use Rattle.graph.specs.Left.{Left}
@@ -33,7 +34,7 @@ use Rattle.rounds.proofs.Rounds.{after-more}
 use Rattle.rounds.proofs.Vectors.{current-at, next-at, next-set, next-list, vectors-are}
 use Rattle.rounds.proofs.Passes.{Rewritten, rewritten-done}
 use Rattle.rounds.proofs.Tests.{iterative-ready, iterative-fits, length-right}
-use Rattle.links.specs.Links.{Links, linksOf, linksIn, sharesIn, outsIn, double, gives, sumOf, divisorOf, dividedAt, divided, settles, one, withChange, absoluteChange}
+use Rattle.links.specs.Links.{Links, linksOf, linksIn, sharesIn, outsIn, gives, sumOf, divisorOf, dividedAt, divided, settles, withChange, absoluteChange}
 use Rattle.links.specs.Steps.{LinksPre, Prepared, writtenBy, DividePre, Divided, Advanced, RoundDone}
 use Rattle.links.proofs.Turns.{region-kept, shares-kept, links-kept, out-at, distributed, nodes-more}
 use Rattle.links.proofs.Rounds.{advanced-round, links-pre-long, pre-kept, run-some}

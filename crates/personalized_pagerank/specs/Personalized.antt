@@ -6,10 +6,11 @@ use Prim.Native.Nat.{ℕ}
 use lib.Dec.{eqb}
 use lib.ListN.{length, set}
 use lib.Ieee.{Float, binary64, add, sub, mul, lt, le}
+use Rattle.regions.specs.Doubles.{one}
 use Rattle.regions.specs.Region.{zeroF, listOf, part}
-use Rattle.graph.specs.declared.Settings.{Settings}
-use Rattle.graph.specs.declared.Rounds.{Rounds}
-use Rattle.graph.specs.Answers.{Said}
+use Rattle.answers.specs.declared.Settings.{Settings}
+use Rattle.answers.specs.declared.Rounds.{Rounds}
+use Rattle.answers.specs.Answers.{Said}
 use Rattle.graph.specs.Given.{Given, graphIn}
 use Rattle.graph.specs.Layout.{personalAt}
 use Rattle.graph.specs.Refusals.{Tests, firstRefusal}
@@ -19,7 +20,7 @@ use Rattle.rounds.specs.Rounds.{after, Round, round, Out, outcome}
 use Rattle.rounds.specs.Tests.{readsWrong, lengthWrong, iterativeTests}
 use Rattle.rounds.specs.Ending.{scored}
 use Rattle.rounds.specs.Vectors.{entry}
-use Rattle.links.specs.Links.{Links, linksOf, one, distributes, settles, sumOf, divided}
+use Rattle.links.specs.Links.{Links, linksOf, distributes, settles, sumOf, divided}
 
 -- ---- a round
 

@@ -1,20 +1,21 @@
 // Personalized PageRank: scores that nodes pass on along their weighted lists, round by round, and that keep to a personalization vector.
-use graph::Ended;
-use graph::Refusal;
-use graph::Rounds;
-use graph::Settings;
+use answers::Ended;
+use answers::Refusal;
+use answers::Rounds;
+use answers::Settings;
 use rounds::Own;
 ghost use mathlib.Core.Path.{_≡_};
 ghost use mathlib.Core.Bool.{cond};
 ghost use Prim.Native.Nat.{_*_, _<_, _≤_};
 ghost use lib.ListN.{length};
-ghost use Rattle.graph.specs.Answers.{saidEnded};
+ghost use Rattle.regions.specs.Doubles.{double};
+ghost use Rattle.answers.specs.Answers.{saidEnded};
 ghost use Rattle.graph.specs.Given.{given as lent};
 ghost use Rattle.graph.specs.Left.{left};
 ghost use Rattle.rounds.specs.Steps.{RoundsDone};
 ghost use Rattle.rounds.specs.Rounds.{after, outcomeFrom};
 ghost use Rattle.rounds.specs.Vectors.{currentIn, nextIn, Vectors};
-ghost use Rattle.links.specs.Links.{linksIn, double};
+ghost use Rattle.links.specs.Links.{linksIn};
 ghost use Rattle.links.specs.Steps.{LinksPre, Divided, Advanced, RoundDone};
 ghost use Rattle.personalized_pagerank.specs.Personalized.{personalIn, gainsPart, personalNode, personalNext, personalStep, countsOf, personalOf, dampingWrong, personalizedOutcome};
 ghost use Rattle.personalized_pagerank.specs.Steps.{basesIn, RoundPre, PersonalPre, PersonalBegun};
@@ -63,7 +64,7 @@ pub fn personalized_pagerank(
         w64.len(),
         wf.len(),
     );
-    if graph::refuses(answer) {
+    if answers::refuses(answer) {
         return Ended::Refused(Refusal { answer });
     }
     links::prepare(nodes, directed, from, to, weight, w32, wf);

@@ -10,7 +10,7 @@ use Rattle.regions.specs.Region.{over, listOf, Filled}
 use Rattle.regions.proofs.Fronts.{front-none, front-wide, front-then}
 use Rattle.regions.proofs.Frames.{frame-front, frame2-front}
 use Rattle.graph.specs.declared.Fronts.{Fronts}
-use Rattle.graph.specs.Answers.{done}
+use Rattle.answers.specs.Answers.{done}
 use Rattle.graph.specs.Given.{Given, graphIn, edgesIn}
 use Rattle.graph.specs.Layout.{distancesAt, queueAt}
 use Rattle.graph.specs.Left.{left, wiped, Wiped}

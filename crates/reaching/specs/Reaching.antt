@@ -7,7 +7,7 @@ use lib.IntN.{pos}
 use lib.ListN.{length}
 use lib.Ieee.{Float, binary64, ofInt, div}
 use Rattle.regions.specs.Region.{zeroF, over, listOf}
-use Rattle.graph.specs.Answers.{Said, done}
+use Rattle.answers.specs.Answers.{Said, done}
 use Rattle.graph.specs.Edges.{Graph}
 use Rattle.graph.specs.Given.{Given, graphIn}
 use Rattle.graph.specs.Left.{Left, wiped, unlessRefused}

@@ -1,8 +1,8 @@
 // Reaching centralities, local and global, of the Rust's other.rs. Each call reads the ends of the edges alone.
-use graph::Plain;
-use graph::Refusal;
+use answers::Plain;
+use answers::Refusal;
 ghost use mathlib.Core.Path.{_≡_};
-ghost use Rattle.graph.specs.Answers.{saidPlain};
+ghost use Rattle.answers.specs.Answers.{saidPlain};
 ghost use Rattle.graph.specs.Given.{given};
 ghost use Rattle.graph.specs.Left.{left};
 ghost use Rattle.reaching.specs.Reaching.{shareOf, reachingOutcome, globalOutcome};
@@ -36,7 +36,7 @@ pub fn local_reaching(
         w64.len(),
         wf.len(),
     );
-    if graph::refuses(answer) {
+    if answers::refuses(answer) {
         return Plain::Refused(Refusal { answer });
     }
     let edges = from.len();

@@ -8,11 +8,11 @@ use lib.ListN.{length}
 use lib.Ieee.{Float}
 use Rattle.regions.specs.Region.{over, cleared, zeroF, Front}
 use Rattle.regions.proofs.Fronts.{cleared-afterD, front-wide}
-use Rattle.graph.specs.declared.Answer.the-variants.{Unsettled}
-use Rattle.graph.specs.declared.Settings.{Settings}
-use Rattle.graph.specs.declared.Rounds.{Rounds}
+use Rattle.answers.specs.declared.Answer.the-variants.{Unsettled}
+use Rattle.answers.specs.declared.Settings.{Settings}
+use Rattle.answers.specs.declared.Rounds.{Rounds}
 use Rattle.graph.specs.declared.Fronts.{Fronts}
-use Rattle.graph.specs.Answers.{done, refusedWith}
+use Rattle.answers.specs.Answers.{done, refusedWith}
 use Rattle.graph.specs.Fronts.{usualFronts}
 use Rattle.graph.specs.Given.{Given}
 use Rattle.graph.specs.Left.{left, Wiped}

@@ -10,11 +10,11 @@ use lib.Ieee.{Float, nan, binary64, add, mul}
 use lib.Ieee.Scale.{finite}
 use Rattle.regions.specs.Region.{over}
 use Rattle.regions.proofs.Parts.{over-at}
-use Rattle.graph.specs.declared.Answer.{Answer}
-use Rattle.graph.specs.declared.Answer.the-variants.{Unsettled}
-use Rattle.graph.specs.declared.Settings.{Settings}
-use Rattle.graph.specs.declared.Rounds.{Rounds}
-use Rattle.graph.specs.Answers.{Said, done, refusal, refuses, refusedWith}
+use Rattle.answers.specs.declared.Answer.{Answer}
+use Rattle.answers.specs.declared.Answer.the-variants.{Unsettled}
+use Rattle.answers.specs.declared.Settings.{Settings}
+use Rattle.answers.specs.declared.Rounds.{Rounds}
+use Rattle.answers.specs.Answers.{Said, done, refusal, refuses, refusedWith}
 use Rattle.graph.specs.Edges.{Edge}
 use Rattle.graph.specs.Given.{Given}
 use Rattle.graph.specs.Left.{Left, untouched, unlessRefused, lateRefusal}

@@ -8,7 +8,7 @@ use lib.Dec.{ltb}
 use lib.ListN.{length}
 use lib.Ieee.{Float}
 use lib.Ieee.Scale.{finite}
-use Rattle.graph.specs.declared.Answer.{Answer}
+use Rattle.answers.specs.declared.Answer.{Answer}
 use Rattle.graph.specs.Given.{Given}
 use Rattle.graph.specs.Refusals.{Tests, firstRefusal}
 use Rattle.graph.specs.Pres.{Ready, Passed}

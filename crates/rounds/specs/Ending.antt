@@ -5,11 +5,11 @@ use Prim.Native.Nat.{ℕ, _≤_}
 use lib.ListN.{length}
 use lib.Ieee.{Float}
 use Rattle.regions.specs.Region.{over, cleared, zeroF}
-use Rattle.graph.specs.declared.Answer.the-variants.{Unsettled}
-use Rattle.graph.specs.declared.Settings.{Settings}
-use Rattle.graph.specs.declared.Rounds.{Rounds}
+use Rattle.answers.specs.declared.Answer.the-variants.{Unsettled}
+use Rattle.answers.specs.declared.Settings.{Settings}
+use Rattle.answers.specs.declared.Rounds.{Rounds}
 use Rattle.graph.specs.declared.Fronts.{Fronts}
-use Rattle.graph.specs.Answers.{Said, done, refusedWith}
+use Rattle.answers.specs.Answers.{Said, done, refusedWith}
 use Rattle.graph.specs.Pres.{Roomy}
 use Rattle.graph.specs.Given.{Given}
 use Rattle.graph.specs.Left.{Left, left, wiped, lateRefusal}

@@ -6,8 +6,8 @@ use Prim.Native.Nat.{ℕ, _+_, _≤_}
 use lib.ListN.{length}
 use lib.Ieee.{Float}
 use Rattle.regions.specs.Region.{Front}
-use Rattle.graph.specs.declared.Settings.{Settings}
-use Rattle.graph.specs.declared.Rounds.{Rounds}
+use Rattle.answers.specs.declared.Settings.{Settings}
+use Rattle.answers.specs.declared.Rounds.{Rounds}
 use Rattle.graph.specs.Edges.{Graph, edgesOf}
 use Rattle.graph.specs.Pres.{Sound}
 use Rattle.rounds.specs.Rounds.{Round, round, Out, out}

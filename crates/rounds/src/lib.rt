@@ -1,11 +1,11 @@
 // What the iterative measures share: their refusals, and what an edge adds to a vector. The definition of rounds and settled stands in specs/.
-use graph::Answer;
-use graph::Ended;
+use answers::Answer;
+use answers::Ended;
+use answers::Refusal;
+use answers::Rounds;
 use graph::Fronts;
-use graph::Refusal;
-use graph::Rounds;
 ghost use mathlib.Core.Path.{_≡_};
-ghost use Rattle.graph.specs.Answers.{saidEnded};
+ghost use Rattle.answers.specs.Answers.{saidEnded};
 ghost use Rattle.graph.specs.Refusals.{firstRefusal};
 ghost use Rattle.graph.specs.Left.{left};
 ghost use Rattle.rounds.specs.Tests.{vectorWrong, lengthWrong, readsWrong, ownTests};
@@ -38,7 +38,7 @@ pub fn refusal(
     ensures { λ r. ⌜ r ≡ firstRefusal (ownTests nodes (now (from .entry)) (now (to .entry)) (now (weight .entry)) empties own short a b c) ⌝ }
 {
     let answer = graph::graph_refusal(nodes, from, to, weight, empties, false);
-    if graph::refuses(answer) {
+    if answers::refuses(answer) {
         return answer;
     }
     if own.number {

@@ -7,10 +7,11 @@ use Prim.Native.Nat.{ℕ, _+_, _*_, _≤_, _<_}
 use native.Mathlib.Omega.{arith}
 use borrow.Author.Tests.{eq-eqb, ne-eqb}
 use lib.ListN.{length, getD, set, length-set}
+use Rattle.graph.specs.Edges.{oneIf}
 use Rattle.regions.specs.Region.{Front}
 use Rattle.regions.proofs.Cases.{same-or-not}
 use Rattle.regions.proofs.Fronts.{front-none, front-by, hit, miss}
-use Rattle.rows.specs.Walks.{one, takes, rowTo, back, countTo, sumTo, EdgePre, EdgeCounted, CountPre, Counted}
+use Rattle.rows.specs.Walks.{takes, rowTo, back, countTo, sumTo, EdgePre, EdgeCounted, CountPre, Counted}
 use Rattle.rows.proofs.Walks.{takes-not, takes-own, takes-loop, row-none, long-more, long-le, total-le}
 use Rattle.rows.proofs.Sums.{sum-add}
 
@@ -18,18 +19,18 @@ use Rattle.rows.proofs.Sums.{sum-add}
 abbrev up : List ℕ → ℕ → List ℕ
 up w x = set w x (getD w x 0 + 1)
 
-up-at : (skip : Bool) (own other : ℕ) (w : List ℕ) (v : ℕ) → own < length w → (own ≡ v → takes skip own other v ≡ true) → getD (up w own) v 0 ≡ getD w v 0 + one (takes skip own other v)
+up-at : (skip : Bool) (own other : ℕ) (w : List ℕ) (v : ℕ) → own < length w → (own ≡ v → takes skip own other v ≡ true) → getD (up w own) v 0 ≡ getD w v 0 + oneIf (takes skip own other v)
 up-at skip own other w v l t =
     ⊎-elim
-    (λ e. hit w own _ v (sym e) (omega arith) ∙ omega (arith, ap (λ (x : ℕ). getD w x 0) e, ap one (t e)))
-    (λ e. miss w own _ v (λ q. e (sym q)) ∙ omega (arith, ap one (takes-not skip own other v e)))
+    (λ e. hit w own _ v (sym e) (omega arith) ∙ omega (arith, ap (λ (x : ℕ). getD w x 0) e, ap oneIf (t e)))
+    (λ e. miss w own _ v (λ q. e (sym q)) ∙ omega (arith, ap oneIf (takes-not skip own other v e)))
     (same-or-not own v)
 
 module _ (n : ℕ) (directed : Bool) (w : List ℕ) (f t : ℕ) (pre : EdgePre n w f t) where
   abbrev from-up : List ℕ
   from-up = up w f
 
-  from-at : (v : ℕ) → getD from-up v 0 ≡ getD w v 0 + one (takes false f t v)
+  from-at : (v : ℕ) → getD from-up v 0 ≡ getD w v 0 + oneIf (takes false f t v)
   from-at v = up-at false f t w v (omega arith) (λ e. takes-own false f t v e refl)
 
   pub counted-directed : directed ≡ true → EdgeCounted directed f t w from-up
@@ -37,7 +38,7 @@ module _ (n : ℕ) (directed : Bool) (w : List ℕ) (f t : ℕ) (pre : EdgePre n
 
   pub counted-loop : directed ≡ false → f ≡ t → EdgeCounted directed f t w from-up
   counted-loop d e =
-      record { long = length-set w f _; at = λ v. rw d (omega (arith, from-at v, ap one (takes-loop true t f v (eq-eqb t f (sym e))))) }
+      record { long = length-set w f _; at = λ v. rw d (omega (arith, from-at v, ap oneIf (takes-loop true t f v (eq-eqb t f (sym e))))) }
 
   pub counted-both : directed ≡ false → (f ≡ t → ⊥) → EdgeCounted directed f t w (up from-up t)
   counted-both d e =
@@ -64,7 +65,7 @@ count-none true fs ts v = omega (arith, ap length (row-none false fs ts v), ap l
 count-none false fs ts v = omega (arith, ap length (row-none false fs ts v), ap length (row-none true ts fs v))
 
 count-more : (directed : Bool) (fs ts : List ℕ) (v i : ℕ)
-    → countTo directed fs ts v (i + 1) ≡ countTo directed fs ts v i + (one (takes false (getD fs i 0) (getD ts i 0) v) + cond directed 0 (one (takes true (getD ts i 0) (getD fs i 0) v)))
+    → countTo directed fs ts v (i + 1) ≡ countTo directed fs ts v i + (oneIf (takes false (getD fs i 0) (getD ts i 0) v) + cond directed 0 (oneIf (takes true (getD ts i 0) (getD fs i 0) v)))
 unfolding countTo
 count-more true fs ts v i = omega (arith, long-more false fs ts v i)
 count-more false fs ts v i = omega (arith, long-more false fs ts v i, long-more true ts fs v i)
@@ -94,9 +95,9 @@ none n directed fs ts w pre =
     record { upto = omega arith; front = front-none w n; at = λ v l. pre .clear v l ∙ sym (count-none directed fs ts v) }
 
 -- an edge changes nothing at a node that is not one of its ends
-elsewhere : (directed : Bool) (f t v : ℕ) → (f ≡ v → ⊥) → (t ≡ v → ⊥) → one (takes false f t v) + cond directed 0 (one (takes true t f v)) ≡ 0
-elsewhere true f t v p q = omega (arith, ap one (takes-not false f t v p))
-elsewhere false f t v p q = omega (arith, ap one (takes-not false f t v p), ap one (takes-not true t f v q))
+elsewhere : (directed : Bool) (f t v : ℕ) → (f ≡ v → ⊥) → (t ≡ v → ⊥) → oneIf (takes false f t v) + cond directed 0 (oneIf (takes true t f v)) ≡ 0
+elsewhere true f t v p q = omega (arith, ap oneIf (takes-not false f t v p))
+elsewhere false f t v p q = omega (arith, ap oneIf (takes-not false f t v p), ap oneIf (takes-not true t f v q))
 
 module _ (n : ℕ) (directed : Bool) (fs ts w₀ : List ℕ) (i : ℕ) (w : List ℕ) (pre : CountPre n fs ts w₀) (more : i < length fs) (s : Counting n directed fs ts w₀ i w) where
   pub turn : EdgePre n w (getD fs i 0) (getD ts i 0)

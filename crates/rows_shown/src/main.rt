@@ -36,7 +36,7 @@ fn show(directed: bool, from: &[u32], to: &[u32], weight: &[f64]) {
         return;
     }
     let answer = graph::graph_refusal(NODES, from, to, weight, false, false);
-    if graph::refuses(answer) {
+    if answers::refuses(answer) {
         io::write_all(STDOUT_FILENO, b"refused\n");
         return;
     }

@@ -3,7 +3,7 @@ use mathlib.Core.Path.{_≡_}
 use Prim.Native.Nat.{_≤_}
 use native.Mathlib.Omega.{arith}
 use lib.ListN.{length}
-use Rattle.graph.specs.Settings.{jobNodeLimit}
+use Rattle.answers.specs.Settings.{jobNodeLimit}
 use Rattle.lines.specs.declared.Measure.{Measure}
 use Rattle.lines.specs.declared.Measure.the-variants.{Betweenness, Pagerank, Personalized, Eigenvector, Katz, Reaching, Voterank, Laplacian, Degree}
 use Rattle.lines.specs.declared.Top.{Top}

@@ -2,7 +2,7 @@
 use mathlib.Core.List.{List}
 use Prim.Native.Nat.{ℕ, _≤_}
 use lib.ListN.{length}
-use Rattle.graph.specs.Settings.{jobNodeLimit, jobEdgeLimit}
+use Rattle.answers.specs.Settings.{jobNodeLimit, jobEdgeLimit}
 
 -- a job within the program's limits: its nodes, and its edges given by their weights' bits
 pub record Within (nodes : ℕ) (bits : List ℕ) : Type 0 where

@@ -5,7 +5,7 @@ use Prim.Native.Nat.{ℕ}
 use lib.ListN.{replicate}
 use lib.Ieee.{Float, binary64, ofBits}
 use Rattle.regions.specs.Region.{zeroF}
-use Rattle.graph.specs.Settings.{jobNodeLimit}
+use Rattle.answers.specs.Settings.{jobNodeLimit}
 use Rattle.lines.specs.declared.Measure.{Measure}
 use Rattle.lines.specs.declared.Measure.the-variants.{Betweenness, Pagerank, Personalized, Eigenvector, Katz, Reaching, Voterank, Laplacian, Degree}
 use Rattle.lines.specs.declared.Top.{Top}

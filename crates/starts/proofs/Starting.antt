@@ -8,6 +8,7 @@ use Prim.Native.Nat.{ℕ, _+_, _*_, _≤_, _<_}
 use native.Mathlib.Omega.{arith}
 use lib.ListN.{length, getD, replicate, length-replicate, getD-replicate}
 use lib.Ieee.{Float, nan}
+use Rattle.regions.specs.Doubles.{double}
 use Rattle.regions.specs.Region.{zeroF, listOf, part, Front}
 use Rattle.regions.proofs.Fronts.{list-long, front-by, front-none, front-then, front-wide}
 use Rattle.regions.proofs.Parts.{list-at}
@@ -22,7 +23,7 @@ use Rattle.hops.proofs.Search.{space-after}
 use Rattle.hops.proofs.Forgetting.{fresh-again, forgotten-kept, space-again}
 use Rattle.hops.proofs.Limits.{within-limit, exceeds-exactly}
 use Rattle.predecessors.specs.Order.{order, predecessors}
-use Rattle.brandes.specs.Shares.{double, sums, fromStart}
+use Rattle.brandes.specs.Shares.{sums, fromStart}
 use Rattle.brandes.specs.Steps.{heldPredecessors, leftBy, ReleasePre, Released}
 use Rattle.predecessors.specs.Tracks.{Traced, Stays}
 use Rattle.predecessors.proofs.Predecessors.{entered-mem}

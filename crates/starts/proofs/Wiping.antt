@@ -8,9 +8,9 @@ use lib.ListN.{length}
 use lib.Ieee.{Float}
 use Rattle.regions.specs.Region.{cleared, zeroF}
 use Rattle.regions.proofs.Fronts.{cleared-afterD}
-use Rattle.graph.specs.declared.Answer.the-variants.{Paths}
+use Rattle.answers.specs.declared.Answer.the-variants.{Paths}
 use Rattle.graph.specs.declared.Fronts.{Fronts}
-use Rattle.graph.specs.Answers.{Said, done, refusedWith}
+use Rattle.answers.specs.Answers.{Said, done, refusedWith}
 use Rattle.graph.specs.Fronts.{usualFronts}
 use Rattle.graph.specs.Given.{Given, graphIn}
 use Rattle.graph.specs.Pres.{Passed, Ready, Roomy}

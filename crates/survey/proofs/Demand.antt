@@ -13,9 +13,9 @@ use lib.Ieee.{Float}
 use Rattle.regions.specs.Region.{listOf}
 use Rattle.regions.proofs.Fronts.{list-long}
 use Rattle.regions.proofs.Parts.{list-at, over-at}
-use Rattle.graph.specs.declared.Answer.the-variants.{Paths}
-use Rattle.graph.specs.declared.Answer.{Answer}
-use Rattle.graph.specs.Answers.{Said, done, refusal, saidPlain, refuses, refusedWith}
+use Rattle.answers.specs.declared.Answer.the-variants.{Paths}
+use Rattle.answers.specs.declared.Answer.{Answer}
+use Rattle.answers.specs.Answers.{Said, done, refusal, saidPlain, refuses, refusedWith}
 use Rattle.graph.specs.Edges.{Edge, edge, edgesFrom, edgesOf, Graph}
 use Rattle.graph.specs.Given.{Given, given}
 use Rattle.graph.specs.Left.{Left, left, wiped, lateRefusal, untouched, unlessRefused}

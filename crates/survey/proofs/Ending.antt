@@ -13,11 +13,11 @@ use Rattle.regions.specs.Region.{Front, over, listOf, part, cleared}
 use Rattle.regions.proofs.Fronts.{cleared-after, front-then, front-wide}
 use Rattle.regions.proofs.Parts.{part-is}
 use Rattle.graph.specs.declared.Fronts.{Fronts}
-use Rattle.graph.specs.declared.Plain.{Plain}
-use Rattle.graph.specs.declared.Plain.the-variants as plain
-use Rattle.graph.specs.declared.Answer.{Answer}
-use Rattle.graph.specs.declared.Answer.the-variants.{Paths}
-use Rattle.graph.specs.Answers.{Said, done, saidPlain, refuses, refusedWith}
+use Rattle.answers.specs.declared.Plain.{Plain}
+use Rattle.answers.specs.declared.Plain.the-variants as plain
+use Rattle.answers.specs.declared.Answer.{Answer}
+use Rattle.answers.specs.declared.Answer.the-variants.{Paths}
+use Rattle.answers.specs.Answers.{Said, done, saidPlain, refuses, refusedWith}
 use Rattle.graph.specs.Fronts.{usualFronts}
 use Rattle.graph.specs.Given.{Given, edgesIn, graphIn}
 use Rattle.graph.specs.Layout.{distancesAt, queueAt}

@@ -6,8 +6,8 @@ use native.Mathlib.Omega.{arith}
 use Rattle.regions.specs.Region.{Filled, over, part}
 use Rattle.regions.proofs.Fronts.{front-then, front-wide}
 use Rattle.regions.proofs.Frames.{frame-front, frame2-front}
-use Rattle.graph.specs.declared.Plain.the-variants as plain
-use Rattle.graph.specs.declared.Answer.the-variants.{Paths}
+use Rattle.answers.specs.declared.Plain.the-variants as plain
+use Rattle.answers.specs.declared.Answer.the-variants.{Paths}
 use Rattle.graph.specs.Fronts.{usualFronts}
 use Rattle.graph.specs.Layout.{distancesAt, queueAt}
 use Rattle.hops.specs.declared.Reached.{Reached}

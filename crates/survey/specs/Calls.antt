@@ -4,9 +4,9 @@ use mathlib.Core.Bool.{Bool}
 use mathlib.Core.List.{List}
 use Prim.Native.Nat.{ℕ}
 use lib.Ieee.{Float}
-use Rattle.graph.specs.declared.Plain.{Plain}
-use Rattle.graph.specs.declared.Plain.the-variants as plain
-use Rattle.graph.specs.Answers.{saidPlain}
+use Rattle.answers.specs.declared.Plain.{Plain}
+use Rattle.answers.specs.declared.Plain.the-variants as plain
+use Rattle.answers.specs.Answers.{saidPlain}
 use Rattle.graph.specs.Given.{given}
 use Rattle.graph.specs.Left.{left}
 use Rattle.survey.specs.Survey.{Results, results, surveyOutcome}

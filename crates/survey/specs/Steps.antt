@@ -5,9 +5,9 @@ use mathlib.Core.List.{List}
 use Prim.Native.Nat.{ℕ, _+_, _≤_, _<_}
 use lib.ListN.{length}
 use Rattle.regions.specs.Region.{Front, over, part}
-use Rattle.graph.specs.declared.Plain.{Plain}
-use Rattle.graph.specs.declared.Plain.the-variants as plain
-use Rattle.graph.specs.declared.Answer.the-variants.{Paths}
+use Rattle.answers.specs.declared.Plain.{Plain}
+use Rattle.answers.specs.declared.Plain.the-variants as plain
+use Rattle.answers.specs.declared.Answer.the-variants.{Paths}
 use Rattle.graph.specs.Edges.{Edge}
 use Rattle.graph.specs.Pres.{Limits}
 use Rattle.graph.specs.Fronts.{usualFronts}

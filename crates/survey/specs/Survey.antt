@@ -6,8 +6,8 @@ use Prim.Native.Nat.{ℕ}
 use lib.Dec.{ltb, leb}
 use lib.ListN.{length}
 use Rattle.regions.specs.Region.{over, listOf}
-use Rattle.graph.specs.declared.Answer.the-variants.{Paths}
-use Rattle.graph.specs.Answers.{Said, done}
+use Rattle.answers.specs.declared.Answer.the-variants.{Paths}
+use Rattle.answers.specs.Answers.{Said, done}
 use Rattle.graph.specs.Edges.{Graph}
 use Rattle.graph.specs.Given.{Given, graphIn}
 use Rattle.graph.specs.Left.{Left, wiped, lateRefusal, unlessRefused}

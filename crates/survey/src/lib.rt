@@ -1,10 +1,10 @@
 // The survey from one node: the fewest hops to every node, and the number of hop sequences of that length.
-use graph::Answer;
-use graph::Plain;
-use graph::Refusal;
+use answers::Answer;
+use answers::Plain;
+use answers::Refusal;
 use hops::Reached;
 ghost use mathlib.Core.Path.{_≡_};
-ghost use Rattle.graph.specs.Answers.{saidPlain};
+ghost use Rattle.answers.specs.Answers.{saidPlain};
 ghost use Rattle.graph.specs.Given.{given};
 ghost use Rattle.graph.specs.Left.{left};
 ghost use Rattle.survey.specs.Survey.{results, tooShort, surveyOutcome};
@@ -39,7 +39,7 @@ pub fn survey(
         w64.len(),
         wf.len(),
     );
-    if graph::refuses(answer) {
+    if answers::refuses(answer) {
         return Plain::Refused(Refusal { answer });
     }
     let edges = from.len();

@@ -102,7 +102,7 @@ fn show(nodes: usize, edges: usize, end: usize, from: &[u32], to: &[u32], weight
         &mut w64,
         &mut wf,
     );
-    print(graph::plain_number(said), distances[end], counts[end]);
+    print(answers::plain_number(said), distances[end], counts[end]);
 }
 
 // The answer and, if it is DONE, the distance and the count.

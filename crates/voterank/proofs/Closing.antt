@@ -10,13 +10,14 @@ use lib.Dec.{ltb}
 use lib.ListN.{length, getD, take, replicate, length-take, length-replicate, getD-replicate}
 use lib.Seq.{ext-getD, getD-take, length-take-le}
 use lib.Ieee.{Float, nan}
+use Rattle.regions.specs.Doubles.{one}
 use Rattle.regions.specs.Region.{over, Filled}
 use Rattle.regions.proofs.Fronts.{front-none, front-wide, front-then}
 use Rattle.regions.proofs.Parts.{over-is}
 use Rattle.regions.proofs.Frames.{frame-front}
-use Rattle.graph.specs.declared.Answer.{Answer}
+use Rattle.answers.specs.declared.Answer.{Answer}
 use Rattle.graph.specs.declared.Fronts.{Fronts}
-use Rattle.graph.specs.Answers.{done, refuses, refusedWith}
+use Rattle.answers.specs.Answers.{done, refuses, refusedWith}
 use Rattle.graph.specs.Given.{Given}
 use Rattle.graph.specs.Left.{left, wiped, untouched, Wiped}
 use Rattle.graph.specs.Pres.{Passed, Ready, Roomy}
@@ -25,7 +26,7 @@ use Rattle.graph.proofs.Left.{refused, went-on}
 use Rattle.graph.proofs.Refusals.{plainTests, plain-ready, plain-fits}
 use Rattle.rows.specs.Rows.{Built}
 use Rattle.laplacian.proofs.Steps.{fronts, Used, wipe-pre, wiped-is}
-use Rattle.voterank.specs.VoteRank.{Poll, poll, oneF, opening, decayOf, elections, seatsOf, closing, voterankOutcome}
+use Rattle.voterank.specs.VoteRank.{Poll, poll, opening, decayOf, elections, seatsOf, closing, voterankOutcome}
 use Rattle.voterank.specs.Elections.{pollAt, graphFrom, ElectPre, Held}
 
 -- the rows of the table that can hold of a call with so many seats
@@ -48,7 +49,7 @@ module _ (seeds : ℕ) (g : Given (List ℕ)) (seats : ℕ) (es : seats ≡ seat
     fill-pre = omega (arith, ready .roomy .rf)
 
     -- from the rows in w1 and the abilities in v1
-    module _ (w1 : List ℕ) (v1 : List Float) (b : Built (g .nodes) (g .directed) (g .from) (g .to) (g .weight) (g .w32) w1) (f : Filled (g .wf) 0 (g .nodes) oneF v1) where
+    module _ (w1 : List ℕ) (v1 : List Float) (b : Built (g .nodes) (g .directed) (g .from) (g .to) (g .weight) (g .w32) w1) (f : Filled (g .wf) 0 (g .nodes) one v1) where
       pub elect-pre : ElectPre (g .nodes) (g .directed) (g .from) (g .to) (g .weight) seats (g .results) w1 v1
       elect-pre =
           record {
@@ -65,10 +66,10 @@ module _ (seeds : ℕ) (g : Given (List ℕ)) (seats : ℕ) (es : seats ≡ seat
       opened : pollAt (g .nodes) 0 (g .results) v1 ≡ opening (g .nodes)
       opened =
           ap (λ (a : List Float). poll a [])
-          (ext-getD nan (take (g .nodes) v1) (replicate (g .nodes) oneF) (long ∙ sym (length-replicate (g .nodes) oneF))
+          (ext-getD nan (take (g .nodes) v1) (replicate (g .nodes) one) (long ∙ sym (length-replicate (g .nodes) one))
           (λ i l.
           let h : i < g .nodes = omega (arith, long) in
-          getD-take (g .nodes) v1 i nan h ∙ ap (λ (j : ℕ). getD v1 j nan) (sym (zero-add i)) ∙ f .at nan i h ∙ sym (getD-replicate (g .nodes) i oneF nan h)))
+          getD-take (g .nodes) v1 i nan h ∙ ap (λ (j : ℕ). getD v1 j nan) (sym (zero-add i)) ∙ f .at nan i h ∙ sym (getD-replicate (g .nodes) i one nan h)))
         where
           long : length (take (g .nodes) v1) ≡ g .nodes
           long = length-take-le (g .nodes) v1 (omega (arith, ready .roomy .rf, f .frame .long))

@@ -11,10 +11,10 @@ use lib.IntN.{ℤ, pos}
 use lib.Ieee.{Float, Format, binary64, nan, inf, fin, prec, emax, low, up, down, odd, units, round, sum, add, lt, eq, isNan, ofBits}
 use lib.Ieee.Fits.{down-pos}
 use lib.Ieee.Positive.{through}
+use Rattle.regions.specs.Doubles.{one}
 use Rattle.regions.specs.Region.{zeroF}
 use Rattle.regions.proofs.Cases.{bool-cases}
 use Rattle.roots.specs.Maximum.{maxOf, under, negative}
-use Rattle.voterank.specs.VoteRank.{oneF}
 
 -- neither NaN nor negative
 abbrev pub fine : Float → Bool
@@ -25,7 +25,7 @@ fine (fin s m e) = not s
 pub zero-fine : fine zeroF ≡ true
 zero-fine = refl
 
-pub one-fine : fine oneF ≡ true
+pub one-fine : fine one ≡ true
 unfolding ofBits
 one-fine = refl
 

@@ -11,6 +11,7 @@ use lib.Dec.{eqb, ltb}
 use lib.ListN.{length, getD, set, replicate, length-set, length-append, length-replicate, getD-replicate, List·getD-append}
 use lib.Seq.{getD-at}
 use lib.Ieee.{Float, binary64, nan, add, sub, lt}
+use Rattle.regions.specs.Doubles.{one}
 use Rattle.regions.specs.Region.{zeroF}
 use Rattle.regions.proofs.Cases.{bool-cases, same-or-not, below-or-not}
 use Rattle.regions.proofs.Fronts.{hitD, missD}
@@ -20,7 +21,7 @@ use Rattle.graph.specs.Given.{Given, graphIn}
 use Rattle.graph.specs.Pres.{Sound}
 use Rattle.hops.specs.Hops.{EndsIn}
 use Rattle.hops.proofs.Workspace.{valid}
-use Rattle.voterank.specs.VoteRank.{oneF, Poll, poll, abilityOf, opening, pollScore, winner, electing, elections, decayOf, seatsOf, closing}
+use Rattle.voterank.specs.VoteRank.{Poll, poll, abilityOf, opening, pollScore, winner, electing, elections, decayOf, seatsOf, closing}
 use Rattle.polls.specs.Votes.{gains, votes, listed, firstHighest, weaker}
 use Rattle.polls.proofs.Voting.{highest-among}
 use Rattle.voterank.proofs.Order.{fine, zero-fine, one-fine, fine-cond, fine-add, fine-max, one-way, not-above, not-below}
@@ -107,7 +108,7 @@ module _ (g : Graph) (decay : Float) (inside : EndsIn (g .nodes) (g .edges)) whe
       go false B = A
 
   able-opening : Able (g .nodes) (opening (g .nodes))
-  able-opening = record { long = length-replicate (g .nodes) oneF; able = λ v h. ap fine (getD-replicate (g .nodes) v oneF nan h) ∙ one-fine }
+  able-opening = record { long = length-replicate (g .nodes) one; able = λ v h. ap fine (getD-replicate (g .nodes) v one nan h) ∙ one-fine }
 
   score-fine : (p : Poll) → Able (g .nodes) p → (v : ℕ) → fine (pollScore g p v) ≡ true
   unfolding pollScore votes

@@ -3,12 +3,12 @@ use mathlib.Core.Path.{_≡_}
 use mathlib.Core.List.{List}
 use Prim.Native.Nat.{ℕ}
 use lib.Ieee.{Float}
-use Rattle.graph.specs.declared.Elected.{Elected}
-use Rattle.graph.specs.Answers.{saidElected}
+use Rattle.answers.specs.declared.Elected.{Elected}
+use Rattle.answers.specs.Answers.{saidElected}
 use Rattle.graph.specs.Given.{Given}
 use Rattle.graph.specs.Left.{left}
 use Rattle.graph.proofs.Left.{no-second}
-use Rattle.graph.proofs.Said.{elected-returned}
+use Rattle.answers.proofs.Said.{elected-returned}
 use Rattle.voterank.specs.VoteRank.{voterankOutcome}
 
 pub voterank-unique : (seeds : ℕ) (g : Given (List ℕ)) {p p′ : Elected} {s s′ : List ℕ} {x x′ y y′ : List ℕ} {z z′ : List Float}

@@ -5,18 +5,15 @@ use Prim.Native.Nat.{ℕ, zero, suc, _*_, _-_, min}
 use lib.Dec.{ltb}
 use lib.IntN.{pos}
 use lib.ListN.{length, getD, set, replicate}
-use lib.Ieee.{Float, binary64, nan, ofBits, ofInt, div, lt}
+use lib.Ieee.{Float, binary64, nan, ofInt, div, lt}
+use Rattle.regions.specs.Doubles.{one}
 use Rattle.regions.specs.Region.{zeroF, over}
-use Rattle.graph.specs.Answers.{Said, done}
+use Rattle.answers.specs.Answers.{Said, done}
 use Rattle.graph.specs.Edges.{Graph, entries}
 use Rattle.graph.specs.Given.{Given, graphIn}
 use Rattle.graph.specs.Left.{Left, wiped, unlessRefused}
 use Rattle.graph.specs.Refusals.{plainly}
 use Rattle.polls.specs.Votes.{votes, listed, firstHighest, weaker}
-
--- 1.0
-abbrev pub oneF : Float
-oneF = ofBits binary64 0x3ff0_0000_0000_0000
 
 -- ---- the decay
 
@@ -30,7 +27,7 @@ averageDegree n directed m = div binary64 (ofInt binary64 (pos (totalDegree dire
 
 -- its reciprocal
 unfoldable pub decayOf : ℕ → Bool → ℕ → Float
-decayOf n directed m = div binary64 oneF (averageDegree n directed m)
+decayOf n directed m = div binary64 one (averageDegree n directed m)
 
 -- ---- an election
 
@@ -49,7 +46,7 @@ abilityOf p v = getD (p .ability) v nan
 
 -- every node has ability 1, and nobody has been elected
 abbrev pub opening : ℕ → Poll
-opening n = poll (replicate n oneF) []
+opening n = poll (replicate n one) []
 
 -- the score of v: its votes, and 0 for one who has been elected
 unfoldable pub pollScore : Graph → Poll → ℕ → Float

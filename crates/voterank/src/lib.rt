@@ -1,10 +1,10 @@
 // VoteRank, of the Rust's other.rs: nodes elected by their neighbours. It reads the ends of the edges alone.
-use graph::Elected;
-use graph::Refusal;
+use answers::Elected;
+use answers::Refusal;
 ghost use mathlib.Core.Path.{_≡_};
 ghost use mathlib.Core.Bool.{cond};
 ghost use Prim.Native.Nat.{_*_, _≤_, min};
-ghost use Rattle.graph.specs.Answers.{saidElected};
+ghost use Rattle.answers.specs.Answers.{saidElected};
 ghost use Rattle.graph.specs.Given.{given};
 ghost use Rattle.graph.specs.Left.{left};
 ghost use Rattle.voterank.specs.VoteRank.{decayOf, voterankOutcome};
@@ -39,7 +39,7 @@ pub fn voterank(
         w64.len(),
         wf.len(),
     );
-    if graph::refuses(answer) {
+    if answers::refuses(answer) {
         return Elected::Refused(Refusal { answer });
     }
     rows::build_rows(nodes, directed, from, to, weight, w32);

@@ -4,8 +4,9 @@ use mathlib.Core.Bool.{true, false}
 use mathlib.Core.List.{List, [], _∷_, _++_}
 use lib.ListN.{replicate}
 use lib.Ieee.{Float, binary64, ofBits, ofInt, add, mul, div, nan}
+use Rattle.regions.specs.Doubles.{two}
 use Rattle.regions.specs.Region.{over, listOf, cleared, zeroF}
-use Rattle.graph.specs.Answers.{done}
+use Rattle.answers.specs.Answers.{done}
 use Rattle.graph.specs.Edges.{edgesFrom, newestFirst, neighbours}
 use Rattle.graph.specs.Given.{Given, given}
 use Rattle.graph.specs.Checks.{sizeWrong, firstFault, nodeWrong, workWrong}
@@ -16,7 +17,7 @@ use Rattle.hops.specs.Hops.{walks, seek, dist, count, exceedsBelow, exceeds}
 use Rattle.predecessors.specs.Order.{holds, entriesOf, levels, copies, entered}
 use Rattle.brandes.specs.Shares.{passed, leave, fromStart, scoresAfter, someExceeds}
 use Rattle.betweenness.specs.Betweenness.{scaled, betweennessScores, betweennessOutcome}
-use Rattle.crossings.specs.Totals.{leaveBy, totalsFrom, totalsAfter, scaledTotal, two}
+use Rattle.crossings.specs.Totals.{leaveBy, totalsFrom, totalsAfter, scaledTotal}
 use Rattle.edge_betweenness.specs.Edges.{EdgeScores, edgeScores, forwardScores, backScores, edgeBetweennessOutcome}
 
 -- 1.0 and 0.5

@@ -8,8 +8,8 @@ use lib.Count.{leadingZeros}
 use lib.Ieee.{Float, binary64, ofBits, toBits, add, sub, mul, lt, nan}
 use Rattle.regions.specs.Region.{over, listOf, cleared, zeroF}
 use Rattle.roots.specs.Root.{sqrtOf, rootOf, rootAt, roundRoot, isqrt}
-use Rattle.graph.specs.declared.Settings.{Settings}
-use Rattle.graph.specs.Answers.{done}
+use Rattle.answers.specs.declared.Settings.{Settings}
+use Rattle.answers.specs.Answers.{done}
 use Rattle.graph.specs.Edges.{edgesFrom}
 use Rattle.graph.specs.Given.{Given, given}
 use Rattle.graph.specs.Checks.{sizeWrong, firstFault, nodeWrong, firstOdd, numberWrong, workWrong}

@@ -8,7 +8,7 @@ use lib.ListN.{replicate}
 use lib.Ieee.{Float, binary64, ofBits, ofInt, add, sub, mul, div, lt, eq, isNan, nan}
 use Rattle.regions.specs.Region.{over, listOf, cleared, zeroF}
 use Rattle.roots.specs.Maximum.{maxOf, under}
-use Rattle.graph.specs.Answers.{done, refusal}
+use Rattle.answers.specs.Answers.{done, refusal}
 use Rattle.graph.specs.Edges.{edgesFrom, newestFirst, neighbours}
 use Rattle.graph.specs.Given.{Given, given}
 use Rattle.graph.specs.Checks.{sizeWrong, firstFault, nodeWrong, workWrong}

@@ -6,9 +6,9 @@ use Prim.Native.Nat.{ℕ}
 use lib.ListN.{replicate}
 use lib.Ieee.{Float, binary64, ofBits, ofInt, round, add, sub, mul, div, neg, lt, eq, nan}
 use Rattle.regions.specs.Region.{over, listOf, cleared, zeroF}
-use Rattle.graph.specs.declared.Settings.{Settings}
-use Rattle.graph.specs.Answers.{done, refusedWith}
-use Rattle.graph.specs.declared.Answer.the-variants.{Start}
+use Rattle.answers.specs.declared.Settings.{Settings}
+use Rattle.answers.specs.Answers.{done, refusedWith}
+use Rattle.answers.specs.declared.Answer.the-variants.{Start}
 use Rattle.graph.specs.Edges.{edgesFrom, weighted, outWeight}
 use Rattle.graph.specs.Given.{Given, given}
 use Rattle.graph.specs.Checks.{sizeWrong, firstFault, nodeWrong, firstOdd, numberWrong, workWrong}

@@ -5,8 +5,8 @@ use mathlib.Core.List.{[], _∷_, _++_}
 use lib.ListN.{replicate}
 use lib.Ieee.{nan}
 use Rattle.regions.specs.Region.{over, listOf, cleared, zeroF}
-use Rattle.graph.specs.declared.Answer.the-variants.{Node}
-use Rattle.graph.specs.Answers.{done, refusedWith}
+use Rattle.answers.specs.declared.Answer.the-variants.{Node}
+use Rattle.answers.specs.Answers.{done, refusedWith}
 use Rattle.graph.specs.Edges.{edgesFrom, newestFirst, neighbours}
 use Rattle.graph.specs.Given.{Given, given}
 use Rattle.graph.specs.Checks.{sizeWrong, firstFault, nodeWrong, workWrong}

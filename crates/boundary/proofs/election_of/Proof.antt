@@ -3,7 +3,7 @@ use Rattle.boundary.proofs.election_of.Statement.{statement}
 use Rattle.boundary.proofs.election_of.Tie as tie
 use Rattle.boundary.proofs.election_of.Reads as reads
 use Rattle.boundary.proofs.election_of.Lts as lts
-use Rattle.graph.proofs.number.Reads as number-reads
+use Rattle.answers.proofs.number.Reads as number-reads
 
 -- src/lib.rt:248:23
 enum-known-e : tie.Need-enum-known-e

@@ -1,7 +1,7 @@
 -- `boundary::report_of` meets its contract, case by case. Assumes nothing.
 use mathlib.Core.Path.{_≡_, sym, ap, _∙_}
-use Rattle.graph.specs.declared.Ended.{Ended}
-use Rattle.graph.specs.Answers.{saidEnded}
+use Rattle.answers.specs.declared.Ended.{Ended}
+use Rattle.answers.specs.Answers.{saidEnded}
 use Rattle.boundary.specs.Boundary.{reported}
 use borrow.Author.Needs.{needs}
 use Rattle.boundary.proofs.report_of.Statement.{statement}

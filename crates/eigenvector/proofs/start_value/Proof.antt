@@ -1,8 +1,9 @@
 -- `eigenvector::start_value` meets its contract. Assumes nothing.
 use mathlib.Core.Path.{ap, _∙_}
 use lib.Ieee.{Float, binary64, div}
+use Rattle.regions.specs.Doubles.{one}
 use Rattle.roots.specs.Root.{sqrtOf}
-use Rattle.eigenvector.specs.Eigenvector.{one, startOf}
+use Rattle.eigenvector.specs.Eigenvector.{startOf}
 use borrow.Author.Needs.{needs}
 use Rattle.eigenvector.proofs.start_value.Statement.{statement}
 use Rattle.eigenvector.proofs.start_value.Tie as tie

@@ -4,8 +4,8 @@ use Prim.Native.Nat.{ℕ, _+_, _*_, _-_, _≤_}
 use native.Mathlib.Omega.{arith}
 use lib.ListN.{length}
 use lib.Ieee.{Float, nan, binary64, ofBits, add, sub, mul}
+use Rattle.regions.specs.Doubles.{one}
 use Rattle.regions.specs.Region.{zeroF}
-use Rattle.links.specs.Links.{one}
 use Rattle.personalized_pagerank.specs.Personalized.{personalIn, personalBase}
 use Rattle.links.proofs.Turns.{Dividing, dividing-none, dividing-more, dividing-done}
 use Rattle.personalized_pagerank.proofs.Personal.{personal-at}

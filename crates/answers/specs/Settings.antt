@@ -1,7 +1,7 @@
 -- The settings' limits and usual values (document 01: damping 0.85, 100 rounds, tolerance 1e-6), each number by its name. Definitions only.
 use Prim.Native.Nat.{ℕ}
 use lib.Ieee.{Float, binary64, ofBits}
-use Rattle.graph.specs.declared.Settings.{Settings}
+use Rattle.answers.specs.declared.Settings.{Settings}
 
 -- the most nodes of a graph
 abbrev pub nodeLimit : ℕ

@@ -1,13 +1,13 @@
--- No second outcome meets the contracts of the graph layer's public calls. Assumes nothing.
+-- No second outcome meets the contracts of this crate's public calls. Assumes nothing.
 use mathlib.Core.Path.{_≡_, sym, _∙_}
 use Prim.Native.Nat.{ℕ}
-use Rattle.graph.specs.declared.Answer.{Answer}
-use Rattle.graph.specs.declared.Plain.{Plain}
-use Rattle.graph.specs.declared.Ended.{Ended}
-use Rattle.graph.specs.declared.Elected.{Elected}
-use Rattle.graph.specs.declared.Settings.{Settings}
-use Rattle.graph.specs.Answers.{numberOf, numberSaid, saidPlain, saidEnded, saidElected}
-use Rattle.graph.specs.Settings.{usualSettings}
+use Rattle.answers.specs.declared.Answer.{Answer}
+use Rattle.answers.specs.declared.Plain.{Plain}
+use Rattle.answers.specs.declared.Ended.{Ended}
+use Rattle.answers.specs.declared.Elected.{Elected}
+use Rattle.answers.specs.declared.Settings.{Settings}
+use Rattle.answers.specs.Answers.{numberOf, numberSaid, saidPlain, saidEnded, saidElected}
+use Rattle.answers.specs.Settings.{usualSettings}
 
 -- two results that equal one value are one result
 one-value : {A : Type 0} {v r r′ : A} → r ≡ v → r′ ≡ v → r ≡ r′

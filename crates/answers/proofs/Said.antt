@@ -3,16 +3,16 @@ use mathlib.Core.Path.{_≡_, refl, sym, ap, _∙_}
 use mathlib.Core.Bool.{cond}
 use Prim.Native.Nat.{ℕ}
 use lib.Dec.{eqb}
-use Rattle.graph.specs.declared.Answer.{Answer}
-use Rattle.graph.specs.declared.Answer.the-variants.{Done, Empty, Size, Node, Number, Room, Damping, Rounds, Start, Length, Paths, Unsettled, Text}
-use Rattle.graph.specs.declared.Refusal.{Refusal}
-use Rattle.graph.specs.declared.Plain.{Plain}
-use Rattle.graph.specs.declared.Plain.the-variants as plain
-use Rattle.graph.specs.declared.Ended.{Ended}
-use Rattle.graph.specs.declared.Ended.the-variants as ended
-use Rattle.graph.specs.declared.Elected.{Elected}
-use Rattle.graph.specs.declared.Elected.the-variants as elected
-use Rattle.graph.specs.Answers.{numberOf, Said, done, refusal, saidPlain, saidEnded, saidElected}
+use Rattle.answers.specs.declared.Answer.{Answer}
+use Rattle.answers.specs.declared.Answer.the-variants.{Done, Empty, Size, Node, Number, Room, Damping, Rounds, Start, Length, Paths, Unsettled, Text}
+use Rattle.answers.specs.declared.Refusal.{Refusal}
+use Rattle.answers.specs.declared.Plain.{Plain}
+use Rattle.answers.specs.declared.Plain.the-variants as plain
+use Rattle.answers.specs.declared.Ended.{Ended}
+use Rattle.answers.specs.declared.Ended.the-variants as ended
+use Rattle.answers.specs.declared.Elected.{Elected}
+use Rattle.answers.specs.declared.Elected.the-variants as elected
+use Rattle.answers.specs.Answers.{numberOf, Said, done, refusal, saidPlain, saidEnded, saidElected}
 
 -- the answer that has a number
 abbrev named : ℕ → Answer

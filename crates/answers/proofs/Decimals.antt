@@ -3,7 +3,7 @@ use mathlib.Core.Path.{_≡_, refl}
 use mathlib.Core.Bool.{false}
 use Prim.Native.Nat.{ℕ}
 use lib.Ieee.{Float, binary64, ofBits, round}
-use Rattle.graph.specs.Settings.{usualDamping, usualTolerance}
+use Rattle.answers.specs.Settings.{usualDamping, usualTolerance}
 
 pub damping-nearest : usualDamping ≡ round binary64 false 85 100
 unfolding ofBits round
