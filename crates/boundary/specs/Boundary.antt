@@ -23,28 +23,29 @@ abbrev pub asNumber : Bool → ℕ
 asNumber true = 1
 asNumber false = 0
 
--- the settings as the calls take them, and as C has them
+-- the settings of C as the calls take them
 abbrev pub asked : Settings → Asked
 asked s = record { damping = s .damping; tolerance = s .tolerance; limit = s .limit }
 
+-- the settings of a call as C has them
 abbrev pub returned : Asked → Settings
 returned s = record { damping = s .damping; tolerance = s .tolerance; limit = s .limit }
 
--- every number of a refusal's struct but its answer is 0
+-- the settings in a refusal's struct: every number of it but its answer is 0
 abbrev pub noSettings : Settings
 noSettings = record { damping = zeroF; tolerance = zeroF; limit = 0 }
 
--- what an iterative call said
+-- what an iterative call said, as its struct
 abbrev pub reported : Said Rounds → Report
 reported (done r) = record { answer = 0; settled = asNumber (r .settled); rounds = r .rounds; settings = returned (r .settings) }
 reported (refusal k) = record { answer = k; settled = 0; rounds = 0; settings = noSettings }
 
--- what an election said
+-- what an election said, as its struct
 abbrev pub counted : Said ℕ → Election
 counted (done k) = record { answer = 0; elected = k }
 counted (refusal k) = record { answer = k; elected = 0 }
 
--- what `run` said: the bytes of text written
+-- what `run` said, as its struct: the bytes of text written
 abbrev pub written : Said ℕ → Text
 written (done k) = record { answer = 0; length = k }
 written (refusal k) = record { answer = k; length = 0 }

@@ -1,4 +1,4 @@
--- Brandes' accumulation in doubles, each operation rounded once, in the Rust's order, from one start and from all. Definitions only.
+-- Brandes' accumulation in doubles, each operation rounded once, in the Rust's order, from one start and from all (document 01, "Betweenness"). Definitions only.
 use mathlib.Core.Bool.{Bool, false, cond, _||_}
 use mathlib.Core.List.{List, foldl, foldr}
 use Prim.Native.Nat.{ℕ, zero, suc}
@@ -11,7 +11,7 @@ use Rattle.graph.specs.Edges.{Graph}
 use Rattle.hops.specs.Hops.{count, exceeds}
 use Rattle.predecessors.specs.Order.{order, predecessors}
 
--- (count[v]/count[w]) * grown
+-- what a predecessor entry v of w takes: (count[v]/count[w]) * grown, where grown is 1 + delta[w]
 abbrev pub share : Float → Float → Float → Float
 share countV countW grown = mul binary64 (div binary64 countV countW) grown
 
@@ -24,6 +24,7 @@ pub record Sums : Type 0 where
   pub delta : List Float
   pub scores : List Float
 
+-- the two from their lists
 abbrev pub sums : List Float → List Float → Sums
 sums d c = record { delta = d; scores = c }
 
@@ -43,7 +44,7 @@ leave counts predecessors s w x =
 abbrev pub ways : Graph → ℕ → ℕ → Float
 ways g s v = double (count g s v)
 
--- from one start s: delta is +0.0 at each node, then the nodes leave in reverse breadth-first order
+-- from one start s: delta is +0.0 at each node and the scores go on from those given, then the nodes leave in reverse breadth-first order
 unfoldable pub fromStart : Graph → ℕ → List Float → Sums
 fromStart g s scores = foldr (leave (ways g s) (predecessors g s) s) (sums (replicate (g .nodes) zeroF) scores) (order g s)
 

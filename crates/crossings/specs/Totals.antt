@@ -16,7 +16,7 @@ pub record Totals : Type 0 where
   pub delta : List Float
   pub total : ℕ → ℕ → Float
 
--- a total of (a, b) with what the predecessor entry v of w adds to the pair (v, w)
+-- the total t of the pair (a, b), after the predecessor entry v of w added its share to the pair (v, w)
 abbrev pub crossing : (ℕ → Float) → ℕ → Float → ℕ → ℕ → Float → ℕ → Float
 crossing counts w grown a b t v = cond (eqb v a && eqb w b) (add binary64 t (share (counts v) (counts w) grown)) t
 
@@ -30,7 +30,7 @@ leaveBy counts entries w x =
 
 -- ---- the starts
 
--- from one start s: delta is +0.0 at each node, then the nodes leave in reverse breadth-first order
+-- from one start s: delta is +0.0 at each node and the totals go on from those given, then the nodes leave in reverse breadth-first order
 unfoldable pub totalsFrom : Graph → ℕ → (ℕ → ℕ → Float) → Totals
 totalsFrom g s total = foldr (leaveBy (ways g s) (predecessors g s)) (record { delta = replicate (g .nodes) zeroF; total = total }) (order g s)
 

@@ -20,10 +20,11 @@ use Rattle.crossings.specs.Totals.{totalsAfter, scaledTotal}
 abbrev pub pairScore : Bool → Graph → ℕ → ℕ → Float
 pairScore normalized g a b = scaledTotal (g .nodes) (g .directed) normalized (totalsAfter g (g .nodes) a b)
 
--- each edge's forward result is its pair's total, its back result the reversed pair's
+-- each edge's forward result: its pair's total, scaled
 unfoldable pub forwardScores : Bool → Graph → List Float
 forwardScores normalized g = map (λ e. pairScore normalized g (e .from) (e .to)) (g .edges)
 
+-- each edge's back result: the reversed pair's total, scaled
 unfoldable pub backScores : Bool → Graph → List Float
 backScores normalized g = map (λ e. pairScore normalized g (e .to) (e .from)) (g .edges)
 
@@ -32,6 +33,7 @@ pub record EdgeScores : Type 0 where
   pub forward : List Float
   pub back : List Float
 
+-- the two from their lists
 abbrev pub edgeScores : List Float → List Float → EdgeScores
 edgeScores f b = record { forward = f; back = b }
 
@@ -39,7 +41,7 @@ edgeScores f b = record { forward = f; back = b }
 abbrev pub scoresShort : Given EdgeScores → Bool
 scoresShort g = ltb (length (g .results .forward)) (length (g .from)) || (not (g .directed) && ltb (length (g .results .back)) (length (g .from)))
 
--- the results of a directed call leave the back slice as it was
+-- the forward results over `forward` and, undirected, the back results over `back`; a directed call leaves `back` as it was
 abbrev pub edgeResults : Bool → Given EdgeScores → EdgeScores
 edgeResults normalized g =
     edgeScores (over (forwardScores normalized (graphIn g)) (g .results .forward)) (cond (g .directed) (g .results .back) (over (backScores normalized (graphIn g)) (g .results .back)))

@@ -50,6 +50,7 @@ pub record RunLeft : Type 0 where
   pub says : Said ℕ
   pub output : List ℕ
 
+-- what `run` leaves, from its parts
 abbrev pub runLeft : Said ℕ → List ℕ → RunLeft
 runLeft says output = record { says = says; output = output }
 

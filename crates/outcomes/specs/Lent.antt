@@ -16,16 +16,18 @@ pub record Lent : Type 0 where
   pub w64 : List ℕ
   pub wf : List Float
 
+-- what is lent, from its parts
 abbrev pub lent : List ℕ → List ℕ → List Float → List Float → List ℕ → List ℕ → List ℕ → List Float → Lent
 lent from to weight scores elected w32 w64 wf = record { from = from; to = to; weight = weight; scores = scores; elected = elected; w32 = w32; w64 = w64; wf = wf }
 
--- to a measure that gives scores, and to an election
+-- what a measure that gives scores is given
 abbrev pub givenScores : Top → Lent → Given (List Float)
 givenScores top l = given (top .nodes) (top .directed) (l .from) (l .to) (l .weight) (l .scores) (l .w32) (l .w64) (l .wf)
 
+-- what an election is given
 abbrev pub givenElected : Top → Lent → Given (List ℕ)
 givenElected top l = given (top .nodes) (top .directed) (l .from) (l .to) (l .weight) (l .elected) (l .w32) (l .w64) (l .wf)
 
--- degree takes no workspace
+-- what degree is given: no workspace
 abbrev pub givenPlaces : Top → Lent → Given (List Float)
 givenPlaces top l = given (top .nodes) (top .directed) (l .from) (l .to) (l .weight) (l .scores) [] [] []

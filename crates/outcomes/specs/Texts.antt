@@ -25,15 +25,15 @@ abbrev pub settledIs : Bool → Settled
 settledIs true = Yes
 settledIs false = No
 
--- of a measure without rounds: the first n scores
+-- the text of a measure without rounds: the first n scores
 abbrev pub plainText : Measure → ℕ → Said (Unit {0}) → List Float → List ℕ
 plainText measure n says scores = saidText says (λ _. answerText measure n 0 Neither (take n scores))
 
--- of an iterative measure: the rounds done, whether they settled, and the first n scores
+-- the text of an iterative measure: the rounds done, whether they settled, and the first n scores
 abbrev pub endedText : Measure → ℕ → Said Rounds → List Float → List ℕ
 endedText measure n says scores = saidText says (λ r. answerText measure n (r .rounds) (settledIs (r .settled)) (take n scores))
 
--- of an election: as many nodes as were elected
+-- the text of an election: as many nodes as were elected
 abbrev pub electedText : ℕ → Said ℕ → List ℕ → List ℕ
 electedText n says elected = saidText says (λ k. electionText n (take k elected))
 
@@ -41,13 +41,15 @@ electedText n says elected = saidText says (λ k. electionText n (take k elected
 abbrev pub settingsOf : Top → Settings
 settingsOf top = record { damping = ofBits binary64 (top .factor); tolerance = ofBits binary64 (top .tolerance); limit = top .rounds }
 
--- the text of each outcome
+-- the text of what a measure without rounds left
 abbrev pub plainOf : Measure → ℕ → Left (Said (Unit {0})) (List Float) → List ℕ
 plainOf measure n o = plainText measure n (o .says) (o .results)
 
+-- the text of what an iterative measure left
 abbrev pub endedOf : Measure → ℕ → Left (Said Rounds) (List Float) → List ℕ
 endedOf measure n o = endedText measure n (o .says) (o .results)
 
+-- the text of what an election left
 abbrev pub electedOf : ℕ → Left (Said ℕ) (List ℕ) → List ℕ
 electedOf n o = electedText n (o .says) (o .results)
 

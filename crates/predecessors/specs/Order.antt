@@ -1,5 +1,5 @@
 -- The breadth-first order from a node, level by level and first come first, and the predecessor entries in the order in which it enters them
--- (Brandes 2001; graphina's betweenness.rs). Definitions only.
+-- (Brandes 2001; graphina's betweenness.rs; document 01, "Betweenness"). Definitions only.
 use mathlib.Core.Bool.{Bool, false, _||_, cond}
 use mathlib.Core.List.{List, [], _∷_, _++_, foldl}
 use Prim.Native.Nat.{ℕ, zero, suc, _+_}

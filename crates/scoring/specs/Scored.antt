@@ -25,13 +25,15 @@ scoredText Voterank top l = voterankText top l
 scoredText Laplacian top l = laplacianText top l
 scoredText Degree top l = degreeText top l
 
--- the numbers of a workspace for the most nodes and edges: 8n+8m+8, 2n and 6n+4m
+-- the numbers of 32 bits in the workspace of a job: 8n+8m+8 for the most nodes and edges it may have
 abbrev pub narrowRoom : ℕ
 narrowRoom = 12296
 
+-- the numbers of 64 bits in it: 2n
 abbrev pub wideRoom : ℕ
 wideRoom = 1024
 
+-- the floats in it: 6n+4m
 abbrev pub floatRoom : ℕ
 floatRoom = 7168
 

@@ -25,7 +25,7 @@ totalDegree directed m = cond directed m (2 * m)
 abbrev pub averageDegree : ℕ → Bool → ℕ → Float
 averageDegree n directed m = div binary64 (ofInt binary64 (pos (totalDegree directed m))) (ofInt binary64 (pos n))
 
--- its reciprocal
+-- the decay: the reciprocal of the average degree
 unfoldable pub decayOf : ℕ → Bool → ℕ → Float
 decayOf n directed m = div binary64 one (averageDegree n directed m)
 
