@@ -11,9 +11,9 @@ use lib.ListN.{length, getD, length-append, List·getD-append}
 use lib.Seq.{getD-append-add}
 use lib.Ieee.{Float}
 use Rattle.regions.proofs.Cases.{same-or-not}
-use Rattle.graph.specs.Edges.{edgesOf, neighbours}
+use Rattle.graph.specs.Edges.{edgesOf, neighbours, oneIf}
 use Rattle.graph.specs.Pres.{Sized}
-use Rattle.rows.specs.Walks.{one, consIf, takes, rowTo, back}
+use Rattle.rows.specs.Walks.{consIf, takes, rowTo, back}
 use Rattle.rows.proofs.Walks.{takes-own, row-none, long-more, long-mono}
 use Rattle.rows.proofs.Neighbours.{rows-are}
 use Rattle.pairs.specs.Writes.{among}
@@ -24,7 +24,7 @@ pub among-none : (skip : Bool) (own other : List ℕ) (v : ℕ) → among skip o
 unfolding among
 among-none skip own other v = refl
 
-pub among-suc : (skip : Bool) (own other : List ℕ) (v i : ℕ) → among skip own other v (suc i) ≡ one (takes skip (getD own i 0) (getD other i 0) v) + among skip own other v i
+pub among-suc : (skip : Bool) (own other : List ℕ) (v i : ℕ) → among skip own other v (suc i) ≡ oneIf (takes skip (getD own i 0) (getD other i 0) v) + among skip own other v i
 unfolding among
 among-suc skip own other v i = refl
 
@@ -42,7 +42,7 @@ among-le skip own other v i k l = omega (arith, among-row skip own other v i, am
 pub among-any : (own other other′ : List ℕ) (v i : ℕ) → among false own other v i ≡ among false own other′ v i
 unfolding among
 among-any own other other′ v zero = refl
-among-any own other other′ v (suc i) = ap (λ (k : ℕ). one (takes false (getD own i 0) (getD other i 0) v) + k) (among-any own other other′ v i)
+among-any own other other′ v (suc i) = ap (λ (k : ℕ). oneIf (takes false (getD own i 0) (getD other i 0) v) + k) (among-any own other other′ v i)
 
 -- ---- the place of the i-th edge's entry
 
@@ -50,7 +50,7 @@ among-any own other other′ v (suc i) = ap (λ (k : ℕ). one (takes false (get
 abbrev pub Stands : ℕ → ℕ → List ℕ → Type 0
 Stands x j row = (j < length row) × (getD row j 0 ≡ x)
 
-cons-stands : (b : Bool) (y x j k : ℕ) (r : List ℕ) → k ≡ one b + j → Stands x j r → Stands x k (consIf b y r)
+cons-stands : (b : Bool) (y x j k : ℕ) (r : List ℕ) → k ≡ oneIf b + j → Stands x j r → Stands x k (consIf b y r)
 cons-stands true y x j k r e h =
     let q : k ≡ suc j = omega arith in
     subst (λ (i : ℕ). Stands x i (y ∷ r)) (sym q) (omega arith, h .1)

@@ -15,7 +15,8 @@ use Rattle.regions.proofs.Fronts.{hit, miss, hitD, missD, list-long}
 use Rattle.regions.proofs.Frames.{frame-none, frame-set}
 use Rattle.regions.proofs.Parts.{list-at, over-is}
 use Rattle.hops.proofs.Sums.{eq-or-ne}
-use Rattle.rows.specs.Walks.{one, takes}
+use Rattle.graph.specs.Edges.{oneIf}
+use Rattle.rows.specs.Walks.{takes}
 use Rattle.rows.proofs.Walks.{takes-not, takes-own, takes-loop}
 use Rattle.pairs.specs.Writes.{among, placeOf, totalOf, backOf, WalkPre, Walked, ForwardPost, BackPre, BackTotal, BackPost}
 use Rattle.pairs.proofs.Cursors.{among-none, among-suc, among-le}
@@ -64,14 +65,14 @@ moved-done {n} {skip} {own} {other} {cursors} {e} {w₀} {w} M none =
     record { frame = M .frame; ends = λ v h. omega (arith, M .at v h, ap (λ (k : ℕ). among skip own other v k) none, among-none skip own other v) }
 
 module _ {n : ℕ} {skip : Bool} {own other : List ℕ} {cursors e : ℕ} {w₀ w : List ℕ} (M : Moved n skip own other cursors e w₀ w) (some : 0 < e) where
-  before : (v : ℕ) → among skip own other v e ≡ one (takes skip (getD own (e - 1) 0) (getD other (e - 1) 0) v) + among skip own other v (e - 1)
+  before : (v : ℕ) → among skip own other v e ≡ oneIf (takes skip (getD own (e - 1) 0) (getD other (e - 1) 0) v) + among skip own other v (e - 1)
   before v = let q : e ≡ suc (e - 1) = omega arith in ap (λ (k : ℕ). among skip own other v k) q ∙ among-suc skip own other v (e - 1)
 
   off : (v : ℕ) → v ≢ getD own (e - 1) 0 → among skip own other v e ≡ among skip own other v (e - 1)
-  off v m = omega (arith, before v, ap one (takes-not skip (getD own (e - 1) 0) (getD other (e - 1) 0) v (λ q. m (sym q))))
+  off v m = omega (arith, before v, ap oneIf (takes-not skip (getD own (e - 1) 0) (getD other (e - 1) 0) v (λ q. m (sym q))))
 
-  on : (b : Bool) → takes skip (getD own (e - 1) 0) (getD other (e - 1) 0) (getD own (e - 1) 0) ≡ b → among skip own other (getD own (e - 1) 0) e ≡ one b + among skip own other (getD own (e - 1) 0) (e - 1)
-  on b t = before (getD own (e - 1) 0) ∙ ap (λ (c : Bool). one c + among skip own other (getD own (e - 1) 0) (e - 1)) t
+  on : (b : Bool) → takes skip (getD own (e - 1) 0) (getD other (e - 1) 0) (getD own (e - 1) 0) ≡ b → among skip own other (getD own (e - 1) 0) e ≡ oneIf b + among skip own other (getD own (e - 1) 0) (e - 1)
+  on b t = before (getD own (e - 1) 0) ∙ ap (λ (c : Bool). oneIf c + among skip own other (getD own (e - 1) 0) (e - 1)) t
 
   pub moved-on : takes skip (getD own (e - 1) 0) (getD other (e - 1) 0) (getD own (e - 1) 0) ≡ true → cursors + n ≤ length w₀ → getD own (e - 1) 0 < n
       → Moved n skip own other cursors (e - 1) w₀ (set w (cursors + getD own (e - 1) 0) (getD w (cursors + getD own (e - 1) 0) 0 + 1))

@@ -8,12 +8,13 @@ use lib.Dec.{eqb}
 use lib.ListN.{length, getD, set}
 use lib.Ieee.{Float, nan}
 use Rattle.regions.specs.Region.{over, listOf, Frame}
-use Rattle.rows.specs.Walks.{one, takes}
+use Rattle.graph.specs.Edges.{oneIf}
+use Rattle.rows.specs.Walks.{takes}
 
 -- how many of the first k edges give v an entry; with skip, a self-loop gives none
 unfoldable pub among : Bool → List ℕ → List ℕ → ℕ → ℕ → ℕ
 among skip own other v zero = 0
-among skip own other v (suc i) = one (takes skip (getD own i 0) (getD other i 0) v) + among skip own other v i
+among skip own other v (suc i) = oneIf (takes skip (getD own i 0) (getD other i 0) v) + among skip own other v i
 
 -- the place of the i-th edge's entry: its node's cursor, behind the entries of the later edges
 abbrev pub placeOf : Bool → List ℕ → List ℕ → List ℕ → ℕ → ℕ → ℕ
