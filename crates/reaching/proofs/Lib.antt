@@ -1,5 +1,3 @@
-pub mod Walks
-pub mod Within
 pub mod Undoing
 pub mod Starting
 pub mod Reached

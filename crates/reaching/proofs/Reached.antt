@@ -1,6 +1,6 @@
--- How `local_reaching` ends: what its steps leave is the outcome. Assumes nothing.
+-- How `local_reaching` ends: refused, or with what its steps leave. Assumes nothing.
 use mathlib.Core.Path.{_≡_, refl, sym, ap, _∙_}
-use mathlib.Core.Bool.{false}
+use mathlib.Core.Bool.{Bool, true}
 use mathlib.Core.List.{List}
 use Prim.Native.Nat.{ℕ, _+_, _*_, _≤_, _<_}
 use native.Mathlib.Omega.{arith}
@@ -10,19 +10,26 @@ use Rattle.regions.specs.Region.{over, listOf, Filled}
 use Rattle.regions.proofs.Fronts.{front-none, front-wide, front-then}
 use Rattle.regions.proofs.Frames.{frame-front, frame2-front}
 use Rattle.graph.specs.declared.Fronts.{Fronts}
-use Rattle.answers.specs.Answers.{done}
+use Rattle.answers.specs.declared.Answer.{Answer}
+use Rattle.answers.specs.Answers.{done, refusedWith, refuses}
 use Rattle.graph.specs.Given.{Given, graphIn, edgesIn}
 use Rattle.graph.specs.Layout.{distancesAt, queueAt}
-use Rattle.graph.specs.Left.{left, wiped, Wiped}
+use Rattle.graph.specs.Left.{left, wiped, untouched, Wiped}
 use Rattle.graph.specs.Pres.{Passed, Roomy}
-use Rattle.graph.proofs.Left.{went-on}
+use Rattle.graph.specs.Refusals.{firstRefusal}
+use Rattle.graph.proofs.Left.{refused, went-on}
 use Rattle.rows.specs.Rows.{Built}
 use Rattle.hops.specs.Hops.{unreached}
 use Rattle.hops.proofs.Search.{rows-after}
 use Rattle.hops.proofs.Workspace.{valid, rows-of}
 use Rattle.laplacian.proofs.Steps.{scoreTests, ready, fits, fronts, Used, wipe-pre, wiped-is}
+use Rattle.reach.specs.Search.{Ground}
 use Rattle.reaching.specs.Reaching.{reachScore, reachingOutcome}
-use Rattle.reaching.specs.Reach.{Ground, AllPre, AllPost}
+use Rattle.reaching.specs.Starts.{AllPre, AllPost}
+
+pub turned-away : (limit : ℕ) (g : Given (List Float)) {a : Answer} {b : Bool} → a ≡ firstRefusal (scoreTests g) → b ≡ refuses a → b ≡ true → untouched g (refusedWith a) ≡ reachingOutcome limit g
+unfolding reachingOutcome
+turned-away limit g ea eb et = refused g (scoreTests g) (wiped g (done (tt {0})) (over (listOf (reachScore (graphIn g) limit) (g .nodes)) (g .results))) ea eb et
 
 module _ (limit : ℕ) (g : Given (List Float)) (p : Passed (scoreTests g)) where
   abbrev n : ℕ

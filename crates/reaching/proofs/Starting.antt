@@ -11,9 +11,12 @@ use Rattle.regions.proofs.Fronts.{results-none, results-more}
 use Rattle.regions.proofs.Frames.{frame2-then}
 use Rattle.graph.specs.Edges.{Edge, Graph}
 use Rattle.hops.specs.Search.{graphOf}
-use Rattle.reaching.specs.Reaching.{othersIn, shareOf, reachScore}
-use Rattle.reaching.specs.Reach.{Within, Ground, FromPre, FromPost, UndoPre, Undone}
-use Rattle.reaching.proofs.Within.{one-more, undo-pre, undone-kept, ground-back}
+use Rattle.reach.specs.Reach.{othersIn}
+use Rattle.reach.specs.Search.{Within, Ground, FromPre, FromPost}
+use Rattle.reach.proofs.Within.{one-more}
+use Rattle.reaching.specs.Reaching.{shareOf, reachScore}
+use Rattle.reaching.specs.Starts.{UndoPre, Undone}
+use Rattle.reaching.proofs.Undoing.{undo-pre, undone-kept, ground-back}
 
 -- the scores of the first s nodes stand, and the workspace is ready for the next search
 pub record Scoring (g : Graph) (limit D Q : ℕ) (scores₀ : List Float) (w : List ℕ) (scores : List Float) (s : ℕ) : Type 0 where

@@ -1,2 +1,2 @@
 pub mod Reaching
-pub mod Reach
+pub mod Starts

@@ -1,8 +1,8 @@
 -- Reaching centralities (document 01, "Reaching"; Mones et al.; graphina's other.rs): the other nodes within a hop limit. Definitions only.
-use mathlib.Core.Bool.{Bool, false, not, _&&_, cond}
+use mathlib.Core.Bool.{false, cond}
 use mathlib.Core.List.{List}
 use Prim.Native.Nat.{ℕ, _-_}
-use lib.Dec.{eqb, leb, ltb}
+use lib.Dec.{ltb}
 use lib.IntN.{pos}
 use lib.ListN.{length}
 use lib.Ieee.{Float, binary64, ofInt, div}
@@ -12,16 +12,7 @@ use Rattle.graph.specs.Edges.{Graph}
 use Rattle.graph.specs.Given.{Given, graphIn}
 use Rattle.graph.specs.Left.{Left, wiped, unlessRefused}
 use Rattle.graph.specs.Refusals.{plainly}
-use Rattle.hops.specs.Sum.{sumOver, below, onlyIf}
-use Rattle.hops.specs.Hops.{unreached, dist}
-
--- some hops lead from s to v, and the fewest are at most the limit
-abbrev pub inReach : Graph → ℕ → ℕ → ℕ → Bool
-inReach g limit s v = not (eqb (dist g s v) unreached) && leb (dist g s v) limit
-
--- how many other nodes are within the limit of s
-unfoldable pub othersIn : Graph → ℕ → ℕ → ℕ
-othersIn g limit s = sumOver (below (g .nodes)) (λ v. onlyIf (not (eqb v s) && inReach g limit s v) 1)
+use Rattle.reach.specs.Reach.{othersIn}
 
 -- k of the n - 1 other nodes; 0 if there is none
 abbrev pub shareOf : ℕ → ℕ → Float

@@ -18,7 +18,8 @@ use Rattle.degree.specs.Degree.{endCount, endScores, endsOutcome, degreeOutcome
 use Rattle.laplacian.specs.Laplacian.{laplacianScore, laplacianScores, laplacianOutcome}
 use Rattle.hops.specs.Sum.{sumOver, below, same}
 use Rattle.hops.specs.Hops.{walks, seek, dist}
-use Rattle.reaching.specs.Reaching.{othersIn, reachScore, reachingOutcome}
+use Rattle.reach.specs.Reach.{othersIn}
+use Rattle.reaching.specs.Reaching.{reachScore, reachingOutcome}
 use Rattle.voterank.specs.VoteRank.{decayOf, pollScore, winner, electing, elections, closing, voterankOutcome}
 use Rattle.polls.specs.Votes.{votes, listed, firstHighest}
 

@@ -7,10 +7,8 @@ use lib.Ieee.{Float}
 use Rattle.graph.specs.Given.{Given, given}
 use Rattle.graph.specs.Pres.{Passed, Limits}
 use Rattle.graph.proofs.Refusals.{passed}
-use Rattle.graph.proofs.Left.{refused}
 use Rattle.laplacian.proofs.Steps.{scoreTests, ready, build-pre}
-use Rattle.reaching.specs.Reaching.{reachingOutcome}
-use Rattle.reaching.proofs.Reached.{fill-room, all-pre, roomy, ended}
+use Rattle.reaching.proofs.Reached.{turned-away, fill-room, all-pre, roomy, ended}
 use borrow.Author.Needs.{needs}
 use Rattle.reaching.proofs.local_reaching.Statement.{statement}
 use Rattle.reaching.proofs.local_reaching.Tie as tie
@@ -38,8 +36,9 @@ refuses-requires : tie.Need-refuses-requires
 refuses-requires c κs = search needs
 
 returns : tie.Need-returns
-unfolding reachingOutcome
-returns c = let g = here (c .before .before .before .before .before .before .before .before .before .before) in refused g (scoreTests g) _ (c .before .before .plain-refusal .ensures) (c .before .refuses .ensures) (c .if1 .taken)
+returns c =
+    let s = c .before .before .before .before .before .before .before .before .before .before in
+    turned-away (s .args .limit) (here s) (c .before .before .plain-refusal .ensures) (c .before .refuses .ensures) (c .if1 .taken)
 
 build-rows-requires : tie.Need-build-rows-requires
 build-rows-requires c κs = let e = c .before in build-pre (here (start e)) (ready (here (start e)) (ok e))

@@ -9,8 +9,8 @@ use Rattle.regions.specs.Region.{over, listOf, Frame2}
 use Rattle.regions.proofs.Frames.{frame2-none}
 use Rattle.graph.specs.Edges.{Edge}
 use Rattle.hops.specs.Search.{graphOf}
+use Rattle.reach.specs.Search.{Ground}
 use Rattle.reaching.specs.Reaching.{reachScore}
-use Rattle.reaching.specs.Reach.{Ground}
 use Rattle.reaching.proofs.Starting.{Scoring, scoring-none, from-pre, undo-this, counted, kept-on, scoring-more}
 use borrow.Author.Needs.{needs}
 use Rattle.reaching.proofs.reach_all.Statement.{statement}

@@ -2,7 +2,7 @@
 use mathlib.Core.Path.{_≡_, subst}
 use Prim.Native.Nat.{ℕ, _≤_, _-_}
 use native.Mathlib.Omega.{arith}
-use Rattle.reaching.specs.Reach.{Undone}
+use Rattle.reaching.specs.Starts.{Undone}
 use Rattle.reaching.proofs.Undoing.{undone-none, in-queue, distance-in, undone-more}
 use borrow.Author.Needs.{needs}
 use Rattle.reaching.proofs.undo.Statement.{statement}

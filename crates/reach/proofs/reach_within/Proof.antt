@@ -1,4 +1,4 @@
--- `reaching::reach_within` meets its contract: before each node of the queue the search is as `Going` says. Assumes nothing.
+-- `reach::reach_within` meets its contract: before each node of the queue the search is as `Going` says. Assumes nothing.
 use mathlib.Core.Path.{refl}
 use mathlib.Core.Bool.{Bool}
 use mathlib.Core.List.{List}
@@ -7,12 +7,12 @@ use native.Mathlib.Omega.{arith}
 use lib.ListN.{getD}
 use Rattle.graph.specs.Edges.{Edge}
 use Rattle.hops.specs.Search.{graphOf}
-use Rattle.reaching.specs.Reach.{Walk, Near}
-use Rattle.reaching.proofs.Walks.{Starts, starts}
-use Rattle.reaching.proofs.Within.{Going, going-none, spread-pre, going-stop, going-more}
+use Rattle.reach.specs.Search.{Walk, Near}
+use Rattle.reach.proofs.Walks.{Starts, starts}
+use Rattle.reach.proofs.Within.{Going, going-none, spread-pre, going-stop, going-more}
 use borrow.Author.Needs.{needs}
-use Rattle.reaching.proofs.reach_within.Statement.{statement}
-use Rattle.reaching.proofs.reach_within.Tie as tie
+use Rattle.reach.proofs.reach_within.Statement.{statement}
+use Rattle.reach.proofs.reach_within.Tie as tie
 
 abbrev Inv-loop : tie.InvT-loop
 Inv-loop nodes limit distances queue w₀ head₀ tail₀ w head tail =

@@ -1,12 +1,12 @@
--- `reaching::reach_from` meets its contract: the start alone, then the search. Assumes nothing.
+-- `reach::reach_from` meets its contract: the start alone, then the search. Assumes nothing.
 use mathlib.Core.Path.{_∙_}
 use native.Mathlib.Omega.{arith}
 use lib.ListN.{length-set}
 use Rattle.regions.proofs.Frames.{frame2-then}
-use Rattle.reaching.proofs.Within.{opened-walk, opened-kept, opened-near}
+use Rattle.reach.proofs.Within.{opened-walk, opened-kept, opened-near}
 use borrow.Author.Needs.{needs}
-use Rattle.reaching.proofs.reach_from.Statement.{statement}
-use Rattle.reaching.proofs.reach_from.Tie as tie
+use Rattle.reach.proofs.reach_from.Statement.{statement}
+use Rattle.reach.proofs.reach_from.Tie as tie
 
 add-w : tie.Need-add-w
 add-w c = let p = c .before .pre in omega (arith, p .ground .apart, p .ground .room, p .start)

@@ -19,7 +19,7 @@ use Rattle.hops.specs.Search.{graphOf, Search, Touched, FoundFirst, FoundAgain,
 use Rattle.hops.proofs.Sums.{eq-or-ne}
 use Rattle.hops.proofs.Search.{front, before-tail, tail-most, node-lt, node-near}
 use Rattle.hops.proofs.Scans.{Scan, scan-none, in-rows, scan-pre, scan-step, place-fits, scan-done}
-use Rattle.reaching.specs.Reach.{MeetPre, unmet, met, Met, Walk, Near, SpreadPre, SpreadPost}
+use Rattle.reach.specs.Search.{MeetPre, unmet, met, Met, Walk, Near, SpreadPre, SpreadPost}
 
 -- a higher limit
 search-more : {g : Graph} {limit s : ℕ} {w c : List ℕ} {D Q head tail u j : ℕ} (more : ℕ) → limit ≤ more → Search g limit s w c D Q head tail u j → Search g more s w c D Q head tail u j

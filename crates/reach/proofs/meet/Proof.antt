@@ -1,11 +1,11 @@
--- `reaching::meet` meets its contract. Assumes nothing.
+-- `reach::meet` meets its contract. Assumes nothing.
 use mathlib.Core.Path.{_≡_}
 use native.Mathlib.Omega.{arith}
 use borrow.Author.Tests.{eq-eqb, ne-eqb}
 use lib.ListN.{length-set}
 use borrow.Author.Needs.{needs}
-use Rattle.reaching.proofs.meet.Statement.{statement}
-use Rattle.reaching.proofs.meet.Tie as tie
+use Rattle.reach.proofs.meet.Statement.{statement}
+use Rattle.reach.proofs.meet.Tie as tie
 
 add-if1 : tie.Need-add-if1
 add-if1 c = search needs

@@ -13,7 +13,7 @@ use Rattle.regions.specs.Region.{listOf, Frame2}
 use Rattle.regions.proofs.Cases.{bool-cases, below-or-not}
 use Rattle.regions.proofs.Fronts.{list-long, hit, miss}
 use Rattle.regions.proofs.Parts.{list-at}
-use Rattle.regions.proofs.Frames.{frame2-none, frame2-then, frame2-by}
+use Rattle.regions.proofs.Frames.{frame2-none, frame2-then}
 use Rattle.graph.specs.Edges.{Edge, Graph, entries}
 use Rattle.hops.specs.Sum.{sumOver, below, onlyIf, same, times}
 use Rattle.hops.specs.Hops.{unreached, walks, dist, Valid}
@@ -22,10 +22,10 @@ use Rattle.hops.proofs.Sums.{eq-or-ne, eqb-yes, eqb-no, same-yes, same-no, sum-
 use Rattle.hops.proofs.Dist.{Fewest, Never, fewest-dist, dist-fewest, dist-cases}
 use Rattle.hops.proofs.Steps.{has-yes, has-no, queued}
 use Rattle.hops.proofs.Partial.{within, label-dist}
-use Rattle.hops.proofs.Search.{rows-after, getD-mem, mem-getD, queue-long, tail-most, node-lt, next-node, finish, first, begun-kept}
-use Rattle.reaching.specs.Reaching.{inReach, othersIn}
-use Rattle.reaching.specs.Reach.{Walk, Near, SpreadPre, SpreadPost, Within, WithinPre, WithinPost, Ground, FromPre, FromPost, UndoPre, Undone}
-use Rattle.reaching.proofs.Walks.{Starts, starts}
+use Rattle.hops.proofs.Search.{getD-mem, mem-getD, queue-long, tail-most, node-lt, next-node, finish, first, begun-kept}
+use Rattle.reach.specs.Reach.{inReach, othersIn}
+use Rattle.reach.specs.Search.{Walk, Near, SpreadPre, SpreadPost, Within, Ground}
+use Rattle.reach.proofs.Walks.{Starts, starts}
 
 -- ---- the test
 
@@ -215,33 +215,3 @@ module _ {g : Graph} {w : List ℕ} {D Q : ℕ} (G : Ground g w D Q) {s : ℕ} (
       go : (v ≡ s) ⊎ (v ≢ s) → getD opened (D + v) 0 ≤ limit
       go (inl e) = omega (arith, label, hit w (D + s) 0 (D + v) (omega arith) (omega (arith, G .apart, G .room)))
       go (inr n) = absurd (k (label ∙ miss w (D + s) 0 (D + v) (λ e. n (omega arith)) ∙ G .far v hv))
-
--- ---- back to the beginning
-module _ {g : Graph} {limit s D Q : ℕ} {w w1 : List ℕ} {tail : ℕ} (G : Ground g w D Q) (K : Frame2 w D (g .nodes) Q (g .nodes) w1) (W : Within g limit s w1 D Q tail) where
-  pub undo-pre : UndoPre tail D Q w1
-  undo-pre = record { room = omega (arith, W .taken, G .room, K .long); before = λ i l. omega (arith, W .queued i l, G .apart) }
-
-  module _ {w2 : List ℕ} (U : Undone tail D Q w1 w2) where
-    pub undone-kept : Frame2 w D (g .nodes) Q (g .nodes) w2
-    undone-kept =
-        frame2-by 0 (U .long ∙ K .long)
-        (λ k p q. U .kept k (λ i l e. p (omega arith) (omega (arith, W .queued i l))) ∙ K .rest 0 k p q)
-
-    far : (v : ℕ) → v < g .nodes → (getD w1 (D + v) 0 ≡ unreached) ⊎ (getD w1 (D + v) 0 ≢ unreached) → getD w2 (D + v) 0 ≡ unreached
-    far v hv (inl e) = go (U .either (D + v))
-      where
-        go : (getD w2 (D + v) 0 ≡ getD w1 (D + v) 0) ⊎ (getD w2 (D + v) 0 ≡ unreached) → getD w2 (D + v) 0 ≡ unreached
-        go (inl o) = o ∙ e
-        go (inr o) = o
-    far v hv (inr n) = let r = W .labelled v hv n in ap (λ (x : ℕ). getD w2 (D + x) 0) (sym (r .2)) ∙ U .far (r .0) (r .1)
-
-    pub ground-back : Ground g w2 D Q
-    ground-back =
-        record {
-          valid = G .valid;
-          rows = rows-after w2 (G .rows) (G .front) (λ i l. undone-kept .rest 0 i (λ p q. omega arith) (λ p q. omega (arith, G .apart)));
-          front = G .front;
-          apart = G .apart;
-          room = omega (arith, G .room, undone-kept .long);
-          far = λ v hv. far v hv (eq-or-ne (getD w1 (D + v) 0) unreached);
-        }

@@ -1,15 +1,15 @@
--- `reaching::spread` meets its contract: at each entry the walk is as `Spreading` says. Assumes nothing.
+-- `reach::spread` meets its contract: at each entry the walk is as `Spreading` says. Assumes nothing.
 use mathlib.Core.Bool.{Bool}
 use mathlib.Core.List.{List}
 use Prim.Native.Nat.{ℕ, _-_}
 use native.Mathlib.Omega.{arith}
 use Rattle.graph.specs.Edges.{Edge}
 use Rattle.hops.specs.Search.{graphOf}
-use Rattle.reaching.specs.Reach.{Walk}
-use Rattle.reaching.proofs.Walks.{Spreading, spreading-none, place-in, spreading-done, entry-in, meet-pre, spreading-more, grows-by, starts}
+use Rattle.reach.specs.Search.{Walk}
+use Rattle.reach.proofs.Walks.{Spreading, spreading-none, place-in, spreading-done, entry-in, meet-pre, spreading-more, grows-by, starts}
 use borrow.Author.Needs.{needs}
-use Rattle.reaching.proofs.spread.Statement.{statement}
-use Rattle.reaching.proofs.spread.Tie as tie
+use Rattle.reach.proofs.spread.Statement.{statement}
+use Rattle.reach.proofs.spread.Tie as tie
 
 abbrev Inv-loop : tie.InvT-loop
 Inv-loop nodes u further distances queue tail w₀ rows end p₀ place₀ w p place =
