@@ -7,7 +7,7 @@ use Rattle.regions.specs.Region.{zeroF}
 use Rattle.answers.specs.declared.Rounds.{Rounds}
 use Rattle.answers.specs.Answers.{Said, done, refusal}
 use Rattle.graph.specs.Left.{Left, left}
-use Rattle.job.specs.Run.{RunLeft}
+use Rattle.ran.specs.Ran.{RunLeft}
 use Rattle.boundary.specs.declared.Settings.{Settings}
 use Rattle.boundary.specs.declared.Report.{Report}
 use Rattle.boundary.specs.declared.Election.{Election}

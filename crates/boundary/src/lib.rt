@@ -1,13 +1,13 @@
 // What passes between C and the calls: the structs of include/meadowrut.h, and what a call said in their numbers.
 ghost use mathlib.Core.Path.{_≡_};
 ghost use Rattle.answers.specs.Answers.{done, refusedWith, saidEnded, saidElected};
-ghost use Rattle.job.specs.Run.{saidRan};
+ghost use Rattle.ran.specs.Ran.{saidRan};
 ghost use Rattle.boundary.specs.Boundary.{asked, reported, counted, written, asNumber};
 use answers::Answer;
 use answers::Elected;
 use answers::Ended;
 use answers::Rounds;
-use job::Ran;
+use ran::Ran;
 
 // What the iterative calls are asked.
 #[repr(C)]

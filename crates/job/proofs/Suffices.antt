@@ -21,9 +21,10 @@ use Rattle.outcomes.specs.Texts.{outputRoom}
 use Rattle.outcomes.proofs.Fits.{refused}
 use Rattle.scoring.specs.Scored.{onZeros, doubles}
 use Rattle.scoring.proofs.Suffices.{measure-fits}
-use Rattle.job.specs.Run.{inputLimit, headAnswer, jobAnswer, answerOf, saidRan, RunLeft, runLeft, runOutcome}
-use Rattle.job.specs.declared.Ran.{Ran}
-use Rattle.job.specs.declared.Ran.the-variants.{Written}
+use Rattle.ran.specs.Ran.{saidRan, RunLeft, runLeft}
+use Rattle.job.specs.Run.{inputLimit, headAnswer, jobAnswer, answerOf, runOutcome}
+use Rattle.ran.specs.declared.Ran.{Ran}
+use Rattle.ran.specs.declared.Ran.the-variants.{Written}
 
 -- by a test: a text that fits if it holds, and one that fits if not
 either : (t : Bool) (a b : List ℕ) → length a ≤ outputRoom → (t ≡ false → length b ≤ outputRoom) → length (cond t a b) ≤ outputRoom

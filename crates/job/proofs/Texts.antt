@@ -20,7 +20,8 @@ use Rattle.reader.specs.Job.{jobOf, edgesOf}
 use Rattle.reply.specs.Reply.{refusalText}
 use Rattle.outcomes.specs.Texts.{outputRoom}
 use Rattle.scoring.specs.Scored.{scoredText, onZeros, doubles}
-use Rattle.job.specs.Run.{inputLimit, runLeft, runOutcome, headAnswer, answerOf}
+use Rattle.ran.specs.Ran.{runLeft}
+use Rattle.job.specs.Run.{inputLimit, runOutcome, headAnswer, answerOf}
 
 -- the same text, written
 pub as-written : {text text′ before after : List ℕ} {r : ℕ} → text ≡ text′ → Written text′ before 0 after r → Written text before 0 after r

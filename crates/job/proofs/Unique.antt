@@ -5,9 +5,10 @@ use Prim.Native.Nat.{ℕ}
 use Rattle.answers.specs.declared.Answer.{Answer}
 use Rattle.answers.specs.Answers.{Said, refusal}
 use Rattle.answers.proofs.Said.{number-names}
-use Rattle.job.specs.declared.Ran.{Ran}
-use Rattle.job.specs.declared.Ran.the-variants.{Written, Refused}
-use Rattle.job.specs.Run.{saidRan, RunLeft, runLeft, runOutcome}
+use Rattle.ran.specs.declared.Ran.{Ran}
+use Rattle.ran.specs.declared.Ran.the-variants.{Written, Refused}
+use Rattle.ran.specs.Ran.{saidRan, RunLeft, runLeft}
+use Rattle.job.specs.Run.{runOutcome}
 
 number-in : {j k : ℕ} → _≡_ {A = Said ℕ} (refusal j) (refusal k) → j ≡ k
 number-in e = cc

@@ -7,7 +7,7 @@ use lib.Dec.{ltb}
 use lib.ListN.{length}
 use lib.Seq.{sets}
 use Rattle.answers.specs.declared.Answer.the-variants.{Size, Room, Text}
-use Rattle.answers.specs.Answers.{Said, done, refusedWith, numberOf}
+use Rattle.answers.specs.Answers.{done, refusedWith, numberOf}
 use Rattle.answers.specs.Settings.{jobNodeLimit, jobEdgeLimit}
 use Rattle.reader.specs.declared.Head.{Head}
 use Rattle.reader.specs.declared.Job.{Job}
@@ -15,8 +15,7 @@ use Rattle.reader.specs.declared.Job.the-variants.{Asked, Fault}
 use Rattle.reader.specs.Edges.{Given, fromOf, toOf, bitsOf}
 use Rattle.reader.specs.Job.{jobOf, edgesOf}
 use Rattle.reply.specs.Reply.{refusalText}
-use Rattle.job.specs.declared.Ran.{Ran}
-use Rattle.job.specs.declared.Ran.the-variants.{Written, Refused}
+use Rattle.ran.specs.Ran.{RunLeft, runLeft}
 use Rattle.outcomes.specs.Texts.{outputRoom}
 use Rattle.scoring.specs.Scored.{scoredText, onZeros, doubles}
 
@@ -39,20 +38,6 @@ jobAnswer (Fault line) edges = refusalText (numberOf Text) line
 -- the answer's text of any bytes: SIZE for too many of them before all else
 unfoldable pub answerOf : List ℕ → List ℕ
 answerOf input = cond (ltb inputLimit (length input)) (refusalText (numberOf Size) 0) (jobAnswer (jobOf input) (edgesOf input .given))
-
--- what `run` says: how many bytes it wrote, or a refusal
-abbrev pub saidRan : Ran → Said ℕ
-saidRan (Written k) = done k
-saidRan (Refused r) = refusedWith (r .answer)
-
--- what `run` leaves: what it says, and the output
-pub record RunLeft : Type 0 where
-  pub says : Said ℕ
-  pub output : List ℕ
-
--- what `run` leaves, from its parts
-abbrev pub runLeft : Said ℕ → List ℕ → RunLeft
-runLeft says output = record { says = says; output = output }
 
 -- ROOM, with the output as it was, if the output is too short for any answer; else the answer's text at its beginning, and every byte after it as it was
 unfoldable pub runOutcome : List ℕ → List ℕ → RunLeft

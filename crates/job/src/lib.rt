@@ -2,25 +2,21 @@
 use answers::Answer;
 use answers::Refusal;
 use answers::Settings;
+use ran::Ran;
 use reader::Head;
 use reader::Job;
 ghost use mathlib.Core.Path.{_≡_};
 ghost use lib.ListN.{take};
 ghost use Rattle.text.specs.Written.{Written};
 ghost use Rattle.outcomes.specs.Pres.{Room};
-ghost use Rattle.job.specs.Run.{answerOf, headAnswer, saidRan, runLeft, runOutcome};
+ghost use Rattle.ran.specs.Ran.{saidRan, runLeft};
+ghost use Rattle.job.specs.Run.{answerOf, headAnswer, runOutcome};
 ghost use Rattle.job.specs.Pres.{Stored};
 
 // The most bytes of a job text, and the bytes that every answer has room in.
 pub const INPUT: usize = 49152;
 
 pub const OUTPUT: usize = 32768;
-
-// How many bytes were written, or why none was.
-pub enum Ran {
-    Written(usize),
-    Refused(Refusal),
-}
 
 // Answers a job text. ROOM if the output has fewer than 32,768 bytes, with nothing read; every other refusal is part of the text.
 pub fn run(input: &[u8], output: &mut [u8]) -> Ran

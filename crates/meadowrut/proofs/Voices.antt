@@ -6,7 +6,7 @@ use lib.Ieee.{Float}
 use Rattle.answers.specs.Answers.{Said}
 use Rattle.graph.specs.Left.{Left, left}
 use Rattle.graph.proofs.Left.{no-second}
-use Rattle.job.specs.Run.{RunLeft, runLeft}
+use Rattle.ran.specs.Ran.{RunLeft, runLeft}
 use Rattle.boundary.specs.declared.Text.{Text}
 use Rattle.boundary.specs.Boundary.{voiced, written, runVoiced}
 

@@ -1,7 +1,7 @@
 // Replays the Rust's answers to job texts. Standard input is a list of records, whose format tests/differential/driver/list.rs
 // describes: a text and its answer, which is held byte for byte to what `job::run` writes.
-use job::Ran;
 use libc::STDIN_FILENO;
+use ran::Ran;
 
 // The lengths in front of a record: five digits, a space, five digits, a newline.
 const FRAME: usize = 12;

@@ -2,10 +2,10 @@
 //
 // Bytes past the limit's first one cannot change the answer and are not read. A read that fails leaves standard output empty,
 // a write that fails leaves it short; either writes one line to standard error.
-use job::Ran;
 use libc::STDERR_FILENO;
 use libc::STDIN_FILENO;
 use libc::STDOUT_FILENO;
+use ran::Ran;
 ghost use Prim.Native.Nat.{_≤_};
 ghost use lib.ListN.{length};
 ghost use Rattle.score.specs.Got.{Within};

@@ -1,8 +1,8 @@
 -- `boundary::text_of` meets its contract, case by case. Assumes nothing.
 use mathlib.Core.Path.{_≡_, sym, ap, _∙_}
 use Prim.Native.Nat.{ℕ}
-use Rattle.job.specs.declared.Ran.{Ran}
-use Rattle.job.specs.Run.{saidRan}
+use Rattle.ran.specs.declared.Ran.{Ran}
+use Rattle.ran.specs.Ran.{saidRan}
 use Rattle.boundary.specs.declared.Text.{Text}
 use Rattle.boundary.specs.Boundary.{written}
 use borrow.Author.Needs.{needs}
