@@ -1,12 +1,16 @@
 // What the programs that replay a list share: the numbers in front of a record, its bytes, the counts printed.
 use libc::STDIN_FILENO;
 use libc::STDOUT_FILENO;
+ghost use mathlib.Core.Path.{_≡_};
+ghost use Rattle.records.specs.Records.{numberIn, withDigit, partOf, Read};
 
 // More than any record has; it stands for what is no number.
 pub const FAULT: usize = 99999;
 
 // The number that digits spell; FAULT for what is no number.
-pub fn number(digits: &[u8]) -> usize {
+pub fn number(digits: &[u8]) -> usize
+    ensures { λ r. ⌜ r ≡ numberIn (now (digits .entry)) ⌝ }
+{
     let mut n = 0;
     let mut i = 0;
     while i < digits.len() {
@@ -17,7 +21,9 @@ pub fn number(digits: &[u8]) -> usize {
 }
 
 // A number and one digit more; what is no digit or too long gives FAULT, and FAULT stays.
-fn with_digit(n: usize, b: u8) -> usize {
+fn with_digit(n: usize, b: u8) -> usize
+    ensures { λ r. ⌜ r ≡ withDigit n b ⌝ }
+{
     let d = text::digit(b) as usize;
     if 9 < d {
         return FAULT;
@@ -29,7 +35,9 @@ fn with_digit(n: usize, b: u8) -> usize {
 }
 
 // Reads n bytes, if there is room for them and they are there.
-pub fn is_read(n: usize, line: &mut [u8]) -> bool {
+pub fn is_read(n: usize, line: &mut [u8]) -> bool
+    ensures { λ r. ⌜ Read r n (now (line .entry)) (now (line .exit)) ⌝ }
+{
     if line.len() < n {
         return false;
     }
@@ -37,7 +45,9 @@ pub fn is_read(n: usize, line: &mut [u8]) -> bool {
 }
 
 // So many bytes from a place on; the whole line where there are not so many.
-pub fn part(line: &[u8], at: usize, n: usize) -> &[u8] {
+pub fn part(line: &[u8], at: usize, n: usize) -> &[u8]
+    ensures { λ r. ⌜ now r ≡ partOf (now (line .entry)) at n ⌝ }
+{
     if line.len() < at {
         return line;
     }

@@ -1,12 +1,17 @@
--- `records::number` is safe and ends: i is at most the length. Assumes nothing.
+-- `records::number` meets its contract: the digits that are left, after those read, give the number. Assumes nothing.
+use mathlib.Core.Path.{_≡_, sym, _∙_}
+use mathlib.Core.List.{foldl}
 use Prim.Native.Nat.{_≤_, _-_}
-use lib.ListN.{length}
+use native.Mathlib.Omega.{arith}
+use lib.ListN.{length, drop}
+use Rattle.records.specs.Records.{withDigit, numberIn}
+use Rattle.records.proofs.Records.{next-digit, all-digits}
 use borrow.Author.Needs.{needs}
 use Rattle.records.proofs.number.Statement.{statement}
 use Rattle.records.proofs.number.Tie as tie
 
 abbrev Inv-loop : tie.InvT-loop
-Inv-loop digits n₀ i₀ n i = i ≤ length digits
+Inv-loop digits n₀ i₀ n i = (i ≤ length digits) × (numberIn digits ≡ foldl withDigit n (drop i digits))
 
 abbrev μ-loop : tie.MeasureT-loop
 μ-loop digits n₀ i₀ n i = length digits - i
@@ -27,10 +32,15 @@ loop-less : tie.Need-loop-less Inv-loop μ-loop
 loop-less c = search needs
 
 loop-again : tie.Need-loop-again Inv-loop μ-loop
-loop-again c = search needs
+loop-again c =
+    let at = c .before .before .before in
+    let bytes = at .before .before .args .digits .now in
+    (omega arith, at .loop .inv .1 ∙ next-digit bytes (at .loop .i) (at .loop .n) _ (c .before .before .loop-test .taken) (c .with-digit .ensures))
 
 returns : tie.Need-returns Inv-loop μ-loop
-returns c = search needs
+returns c =
+    let at = c .before in
+    sym (at .loop .inv .1 ∙ all-digits (at .before .before .args .digits .now) (at .loop .i) (at .loop .n) (c .loop-test .left))
 
 pub number-spec : {M : Type 1} → statement M
 number-spec =
