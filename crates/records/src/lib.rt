@@ -1,6 +1,5 @@
-// What the programs that replay a list share: the numbers in front of a record, its bytes, the counts printed.
+// What the programs that replay a list share: the numbers in front of a record, and its bytes.
 use libc::STDIN_FILENO;
-use libc::STDOUT_FILENO;
 ghost use mathlib.Core.Path.{_≡_};
 ghost use Rattle.records.specs.Records.{numberIn, withDigit, partOf, Read};
 
@@ -55,17 +54,4 @@ pub fn part(line: &[u8], at: usize, n: usize) -> &[u8]
         return line;
     }
     &line[at..at + n]
-}
-
-pub fn print(word: &[u8]) {
-    io::write_all(STDOUT_FILENO, word);
-}
-
-// The end of a line of counts.
-pub fn print_counts(records: u64, differ: u64) {
-    print(b" ");
-    io::print_decimal(STDOUT_FILENO, records);
-    print(b" records, ");
-    io::print_decimal(STDOUT_FILENO, differ);
-    print(b" differ\n");
 }

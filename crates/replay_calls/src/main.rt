@@ -4,6 +4,7 @@
 mod lend;
 
 use libc::STDIN_FILENO;
+use libc::STDOUT_FILENO;
 use words::WORDS;
 
 // The calls, by their numbers in the list.
@@ -43,7 +44,7 @@ fn ends(seen: &mut [u64; CALLS], differ: &mut [u64; CALLS]) -> bool {
         count(records::part(&line, 0, n), seen, differ);
         return false;
     }
-    records::print(b"a record that is none\n");
+    print(b"a record that is none\n");
     true
 }
 
@@ -70,7 +71,7 @@ fn count(line: &[u8], seen: &mut [u64; CALLS], differ: &mut [u64; CALLS]) {
     let words = words::front(&room, n);
     let call = words::size(words, 0, 0);
     if CALLS <= call {
-        records::print(b"a call that is none\n");
+        print(b"a call that is none\n");
         return;
     }
     add_one(call, seen);
@@ -93,36 +94,49 @@ fn print_all(seen: &[u64; CALLS], differ: &[u64; CALLS]) {
     let mut call = 0;
     while call < CALLS {
         print_name(call);
-        records::print_counts(seen[call], differ[call]);
+        print_counts(seen[call], differ[call]);
         all = std::num::wrapping_add_u64(all, seen[call]);
         wrong = std::num::wrapping_add_u64(wrong, differ[call]);
         call += 1;
     }
-    records::print(b"all");
-    records::print_counts(all, wrong);
+    print(b"all");
+    print_counts(all, wrong);
 }
 
 fn print_name(call: usize) {
     match call {
-        0 => records::print(b"degree"),
-        1 => records::print(b"in_degree"),
-        2 => records::print(b"out_degree"),
-        3 => records::print(b"survey"),
-        4 => records::print(b"betweenness"),
-        5 => records::print(b"edge_betweenness"),
-        6 => records::print(b"local_reaching"),
+        0 => print(b"degree"),
+        1 => print(b"in_degree"),
+        2 => print(b"out_degree"),
+        3 => print(b"survey"),
+        4 => print(b"betweenness"),
+        5 => print(b"edge_betweenness"),
+        6 => print(b"local_reaching"),
         _ => print_later_name(call),
     }
 }
 
 fn print_later_name(call: usize) {
     match call {
-        7 => records::print(b"global_reaching"),
-        8 => records::print(b"voterank"),
-        9 => records::print(b"laplacian"),
-        10 => records::print(b"pagerank"),
-        11 => records::print(b"personalized_pagerank"),
-        12 => records::print(b"eigenvector"),
-        _ => records::print(b"katz"),
+        7 => print(b"global_reaching"),
+        8 => print(b"voterank"),
+        9 => print(b"laplacian"),
+        10 => print(b"pagerank"),
+        11 => print(b"personalized_pagerank"),
+        12 => print(b"eigenvector"),
+        _ => print(b"katz"),
     }
+}
+
+fn print(word: &[u8]) {
+    io::write_all(STDOUT_FILENO, word);
+}
+
+// The end of a line of counts.
+fn print_counts(records: u64, differ: u64) {
+    print(b" ");
+    io::print_decimal(STDOUT_FILENO, records);
+    print(b" records, ");
+    io::print_decimal(STDOUT_FILENO, differ);
+    print(b" differ\n");
 }
