@@ -1,4 +1,5 @@
 pub mod Turns
+pub mod Giving
 pub mod Weights
 pub mod Rounds
 pub mod Ending

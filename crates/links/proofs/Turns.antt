@@ -1,79 +1,26 @@
 -- The turns of the PageRanks' loops over the vectors in the workspace. Assumes nothing.
 use mathlib.Core.Path.{_≡_, refl, sym, ap, _∙_}
 use mathlib.Core.List.{List, [], foldl}
-use Prim.Native.Nat.{ℕ, _+_, _*_, _-_, _≤_, _<_}
+use Prim.Native.Nat.{ℕ, _+_, _*_, _≤_, _<_}
 use native.Mathlib.Omega.{arith}
 use lib.ListN.{length, getD, set}
-use lib.Ieee.{Float, nan, binary64, add, mul, div}
+use lib.Ieee.{Float, nan, binary64, mul, div}
 use Rattle.regions.specs.Region.{listOf, part, Front, Frame}
 use Rattle.regions.proofs.Parts.{part-at, part-is, list-at}
 use Rattle.regions.proofs.Fronts.{list-same, front-none, front-wide}
 use Rattle.regions.proofs.Frames.{frame-part, front-frame, frame-none, frame-set, store-more}
 use Rattle.graph.specs.Layout.{entriesAt}
 use Rattle.lists.specs.Lists.{Share, share, longAt}
-use Rattle.lists.proofs.Reading.{fold-none, fold-more}
 use Rattle.rounds.specs.Rounds.{after}
 use Rattle.rounds.specs.Vectors.{entry, currentIn, nextIn, Vectors}
 use Rattle.rounds.proofs.Rounds.{after-none, after-more}
-use Rattle.rounds.proofs.Vectors.{current-at, next-at, next-set, vectors-then, vectors-are}
+use Rattle.rounds.proofs.Vectors.{current-at, vectors-then, vectors-are}
 use Rattle.links.specs.Links.{linksIn, shareIn, sharesIn, weightsAt, outsIn, gives, distributes}
-use Rattle.links.specs.Steps.{LinksPre, Divided}
+use Rattle.links.specs.Steps.{Divided}
 
 -- both vectors as they are
 pub vectors-none : (n : ℕ) (w : List Float) {y : List Float} → nextIn n w ≡ y → Vectors n w (currentIn n w) y w
 vectors-none n w e = record { front = front-none w (n + n); current = refl; next = e }
-
--- ---- `give`
--- where a walk over the list of v reads
-pub record Offsets (n : ℕ) (w : List ℕ) (wf : List Float) (v : ℕ) : Type 0 where
-  pub next : v + 1 < length w
-  pub rises : getD w v 0 ≤ getD w (v + 1) 0
-  pub entries : entriesAt n + getD w (v + 1) 0 ≤ length w
-  pub weights : weightsAt n + getD w (v + 1) 0 ≤ length wf
-  pub room : 4 * n ≤ length wf
-
-pub offsets : (n : ℕ) (w : List ℕ) (wf : List Float) → LinksPre n w wf → (v : ℕ) → v < n → Offsets n w wf v
-offsets n w wf pre v l =
-    record { next = omega (arith, pre .entries v l); rises = pre .rises v l; entries = pre .entries v l; weights = pre .weights v l; room = pre .room }
-
-module _ (n : ℕ) (w : List ℕ) (v : ℕ) (c : Float) (wf₀ : List Float) where
-  abbrev held : ℕ → Share
-  held k = shareIn n w wf₀ (getD w v 0 + k)
-
-  -- the next vector after the entries before the jth place
-  abbrev pub givenTo : ℕ → List Float
-  givenTo j = foldl (gives c) (nextIn n wf₀) (listOf held (j - getD w v 0))
-
-  pub give-none : Vectors n wf₀ (currentIn n wf₀) (givenTo (getD w v 0)) wf₀
-  give-none = vectors-none n wf₀ (fold-none (gives c) (nextIn n wf₀) held ∙ ap (λ (i : ℕ). foldl (gives c) (nextIn n wf₀) (listOf held i)) (gone (getD w v 0)))
-    where
-      gone : (a : ℕ) → 0 ≡ a - a
-      gone a = omega arith
-
-  pub give-more : (j : ℕ) (wf : List Float) → n + n ≤ length wf₀ → getD w v 0 ≤ j → getD w (entriesAt n + j) 0 < n
-      → Vectors n wf₀ (currentIn n wf₀) (givenTo j) wf
-      → Vectors n wf₀ (currentIn n wf₀) (givenTo (j + 1))
-      (set wf (n + getD w (entriesAt n + j) 0) (add binary64 (getD wf (n + getD w (entriesAt n + j) 0) nan) (mul binary64 c (getD wf (weightsAt n + j) nan))))
-  give-more j wf room l inside s =
-      let t = getD w (entriesAt n + j) 0 in
-      let x = mul binary64 c (getD wf (weightsAt n + j) nan) in
-      vectors-then s
-      (vectors-are (s .current)
-      (ap (λ (a : Float). set (nextIn n wf) t (add binary64 a x)) (next-at n wf t inside)
-      ∙ ap (λ (z : Float). set (nextIn n wf) t (add binary64 (entry (nextIn n wf) t) (mul binary64 c z))) (s .front .rest nan (weightsAt n + j) (omega arith))
-      ∙ fold-more (gives c) (nextIn n wf₀) held (j - getD w v 0) (nextIn n wf) (shareIn n w wf₀ j) (s .next) (ap (shareIn n w wf₀) (there (getD w v 0) l))
-      ∙ ap (λ (i : ℕ). foldl (gives c) (nextIn n wf₀) (listOf held i)) (later (getD w v 0) l))
-      (next-set n wf t (add binary64 (getD wf (n + t) nan) x) (omega (arith, s .front .long)) inside))
-    where
-      there : (a : ℕ) → a ≤ j → j ≡ a + (j - a)
-      there a q = omega arith
-
-      later : (a : ℕ) → a ≤ j → j - a + 1 ≡ j + 1 - a
-      later a q = omega arith
-
-  pub give-done : (j : ℕ) (wf : List Float) → j ≡ getD w (v + 1) 0 → Vectors n wf₀ (currentIn n wf₀) (givenTo j) wf
-      → Vectors n wf₀ (currentIn n wf₀) (foldl (gives c) (nextIn n wf₀) (sharesIn n w wf₀ v)) wf
-  give-done j wf e s = vectors-are refl (ap givenTo e) s
 
 -- ---- what a round reads is kept while it writes
 -- the lists, whatever becomes of the four vectors

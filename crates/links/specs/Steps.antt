@@ -1,11 +1,11 @@
 -- What the steps of the PageRanks promise each other. Definitions only.
 use mathlib.Core.Path.{_≡_}
 use mathlib.Core.Bool.{Bool, true}
-use mathlib.Core.List.{List}
-use Prim.Native.Nat.{ℕ, _+_, _*_, _≤_, _<_}
+use mathlib.Core.List.{List, foldl}
+use Prim.Native.Nat.{ℕ, _+_, _*_, _-_, _≤_, _<_}
 use lib.ListN.{length, getD}
 use lib.Ieee.{Float, nan}
-use Rattle.regions.specs.Region.{Front, Frame, part, over, cleared, zeroF}
+use Rattle.regions.specs.Region.{Front, Frame, listOf, part, over, cleared, zeroF}
 use Rattle.answers.specs.declared.Rounds.{Rounds}
 use Rattle.graph.specs.declared.Fronts.{Fronts}
 use Rattle.answers.specs.Answers.{Said, done}
@@ -13,9 +13,9 @@ use Rattle.graph.specs.Edges.{edgesOf}
 use Rattle.graph.specs.Layout.{entriesAt, besideAt}
 use Rattle.graph.specs.Pres.{Sound}
 use Rattle.graph.specs.Left.{Left, left}
-use Rattle.lists.specs.Lists.{ListsFit, listsFront}
-use Rattle.rounds.specs.Vectors.{currentIn, nextIn}
-use Rattle.links.specs.Links.{linksOf, linksIn, weightsAt, absoluteChange}
+use Rattle.lists.specs.Lists.{Share, ListsFit, listsFront}
+use Rattle.rounds.specs.Vectors.{currentIn, nextIn, Vectors}
+use Rattle.links.specs.Links.{linksOf, linksIn, weightsAt, shareIn, gives, absoluteChange}
 
 -- w holds n lists whose targets are nodes, and wf has the four vectors and a weight for each entry
 pub record LinksPre (n : ℕ) (w : List ℕ) (wf : List Float) : Type 0 where
@@ -62,6 +62,21 @@ pub record DividePre (n : ℕ) (flag : Bool) (xs : List Float) (base : ℕ) (wf 
 pub record Divided (n : ℕ) (values : List Float) (base : ℕ) (wf wf′ : List Float) : Type 0 where
   pub frame : Frame wf base n wf′
   pub there : part wf′ base n ≡ values
+
+-- w has the entries from k to before end, their targets are nodes, and wf has the vectors and a weight for each of them
+pub record GivePre (n : ℕ) (w : List ℕ) (k end : ℕ) (wf : List Float) : Type 0 where
+  pub order : k ≤ end
+  pub entries : entriesAt n + end ≤ length w
+  pub nodes : (j : ℕ) → k ≤ j → j < end → getD w (entriesAt n + j) 0 < n
+  pub weights : weightsAt n + end ≤ length wf
+
+-- what the entries from k to before end give
+abbrev pub sharesFrom : ℕ → List ℕ → List Float → ℕ → ℕ → List Share
+sharesFrom n w wf k end = listOf (λ j. shareIn n w wf (k + j)) (end - k)
+
+-- wf′ is wf after the entries from k to before end have given, in their order; the current vector is as it was
+abbrev pub Given : ℕ → Float → List ℕ → ℕ → ℕ → List Float → List Float → Type 0
+Given n contribution w k end wf wf′ = Vectors n wf (currentIn n wf) (foldl (gives contribution) (nextIn n wf) (sharesFrom n w wf k end)) wf′
 
 -- the next vector became the current one, beside it still the next
 pub record Advanced (n : ℕ) (wf : List Float) (change : Float) (wf′ : List Float) : Type 0 where

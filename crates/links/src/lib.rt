@@ -5,7 +5,7 @@ use answers::Rounds;
 ghost use mathlib.Core.Path.{_≡_};
 ghost use mathlib.Core.Bool.{cond, true};
 ghost use mathlib.Core.List.{foldl};
-ghost use Prim.Native.Nat.{_<_};
+ghost use Prim.Native.Nat.{_+_, _≤_, _<_};
 ghost use lib.ListN.{length};
 ghost use Rattle.regions.specs.Doubles.{one};
 ghost use Rattle.regions.specs.Region.{listOf};
@@ -16,7 +16,7 @@ ghost use Rattle.graph.specs.Left.{left};
 ghost use Rattle.rounds.specs.Ending.{WritePre};
 ghost use Rattle.rounds.specs.Vectors.{entry, currentIn, nextIn, Vectors};
 ghost use Rattle.links.specs.Links.{sharesIn, gives, sumOf, divisorOf, dividedAt};
-ghost use Rattle.links.specs.Steps.{LinksPre, PreparePre, Prepared, CopyPre, WeightsCopied, writtenBy, DividePre, Divided};
+ghost use Rattle.links.specs.Steps.{LinksPre, PreparePre, Prepared, CopyPre, WeightsCopied, writtenBy, DividePre, Divided, GivePre, Given};
 
 // Builds the weighted lists, the out-weights from them, and beside them the weights of the entries.
 pub fn prepare(
@@ -103,10 +103,61 @@ pub fn give(nodes: usize, contribution: f64, w: &[u32], v: usize, wf: &mut [f64]
     requires { ⌜ LinksPre nodes (now w) (now wf) × (v < nodes) ⌝ }
     ensures { λ _. ⌜ Vectors nodes (now (wf .entry)) (currentIn nodes (now (wf .entry))) (foldl (gives contribution) (nextIn nodes (now (wf .entry))) (sharesIn nodes (now (w .entry)) (now (wf .entry)) v)) (now (wf .exit)) ⌝ }
 {
+    let end = w[v + 1] as usize;
+    let first = w[v] as usize;
+    let k = give_fours(nodes, contribution, w, first, end, wf);
+    give_rest(nodes, contribution, w, k, end, wf);
+}
+
+// The entries from first on, four a turn; returns the first of those that are left, fewer than four.
+fn give_fours(
+    nodes: usize,
+    contribution: f64,
+    w: &[u32],
+    first: usize,
+    end: usize,
+    wf: &mut [f64],
+) -> usize
+    requires { ⌜ GivePre nodes (now w) first end (now wf) ⌝ }
+    ensures { λ r. ⌜ (first ≤ r) × (r ≤ end) × Given nodes contribution (now (w .entry)) first r (now (wf .entry)) (now (wf .exit)) ⌝ }
+{
+    let mut k = first;
+    while 4 <= end - k {
+        give_four(nodes, contribution, w, k, wf);
+        k += 4;
+    }
+    k
+}
+
+// Four entries; their targets and products are read before the first store, so that they wait for none.
+fn give_four(nodes: usize, contribution: f64, w: &[u32], k: usize, wf: &mut [f64])
+    requires { ⌜ GivePre nodes (now w) k (k + 4) (now wf) ⌝ }
+    ensures { λ _. ⌜ Given nodes contribution (now (w .entry)) k (k + 4) (now (wf .entry)) (now (wf .exit)) ⌝ }
+{
+    let entries = nodes + 1 + k;
+    let weights = 4 * nodes + k;
+    let first = nodes + w[entries] as usize;
+    let second = nodes + w[entries + 1] as usize;
+    let third = nodes + w[entries + 2] as usize;
+    let fourth = nodes + w[entries + 3] as usize;
+    let to_first = contribution * wf[weights];
+    let to_second = contribution * wf[weights + 1];
+    let to_third = contribution * wf[weights + 2];
+    let to_fourth = contribution * wf[weights + 3];
+    wf[first] = wf[first] + to_first;
+    wf[second] = wf[second] + to_second;
+    wf[third] = wf[third] + to_third;
+    wf[fourth] = wf[fourth] + to_fourth;
+}
+
+// The entries from first on, one a turn.
+fn give_rest(nodes: usize, contribution: f64, w: &[u32], first: usize, end: usize, wf: &mut [f64])
+    requires { ⌜ GivePre nodes (now w) first end (now wf) ⌝ }
+    ensures { λ _. ⌜ Given nodes contribution (now (w .entry)) first end (now (wf .entry)) (now (wf .exit)) ⌝ }
+{
     let entries = nodes + 1;
     let weights = 4 * nodes;
-    let end = w[v + 1] as usize;
-    let mut k = w[v] as usize;
+    let mut k = first;
     while k < end {
         let at = nodes + w[entries + k] as usize;
         wf[at] = wf[at] + contribution * wf[weights + k];
