@@ -132,8 +132,9 @@ uint32_t meadowrut_betweenness(
     uint32_t *w32, size_t w32_len, uint64_t *w64, size_t w64_len, double *wf, size_t wf_len);
 
 /* Betweenness of each edge: the total of its ordered pair (from, to) forward, of (to, from) back. Parallel edges share
- * their pair's total. Normalized and nodes > 1: times 1/(nodes*(nodes-1)) directed, 2/(nodes*(nodes-1)) undirected.
- * Raw: as it is; undirected is not halved. A directed call neither needs nor touches back.
+ * their pair's total; a self-loop's is 0. Normalized and nodes > 1: times 1/(nodes*(nodes-1)) directed,
+ * 2/(nodes*(nodes-1)) undirected. Raw: as it is; undirected is not halved. A directed call neither needs nor touches
+ * back.
  * Refuses SIZE, EMPTY, NODE, ROOM, PATHS. Room: forward m; undirected, back m. */
 uint32_t meadowrut_edge_betweenness(
     size_t nodes, uint32_t directed,
@@ -177,8 +178,9 @@ uint32_t meadowrut_laplacian(
     uint32_t *w32, size_t w32_len, uint64_t *w64, size_t w64_len, double *wf, size_t wf_len);
 
 /* PageRank. Stops when the summed absolute change is below tolerance*nodes; running out of rounds is DONE, settled 0.
- * start is read only if given is not 0, has one entry for each node and is divided by its sum; else every node starts
- * with 1/nodes.
+ * start is read only if given is not 0; it then has one entry for each node and is divided by its sum. Else every node
+ * starts with 1/nodes. A node whose out-weight is exactly 0 dangles: every node gets the same part of its score. One
+ * whose out-weight is negative neither dangles nor gives.
  * Reads weights, damping, tolerance and a given start.
  * Refuses SIZE, NODE, NUMBER, LENGTH, START, ROOM. Room: scores nodes. */
 meadowrut_report meadowrut_pagerank(
@@ -189,8 +191,8 @@ meadowrut_report meadowrut_pagerank(
     uint32_t *w32, size_t w32_len, uint64_t *w64, size_t w64_len, double *wf, size_t wf_len);
 
 /* Personalized PageRank. Stops as PageRank does; running out of rounds is DONE, settled 0. personalization is read only
- * if given is not 0, has one entry for each node and is divided by its sum; one whose sum is not positive, or that is
- * not given, is uniform.
+ * if given is not 0; it then has one entry for each node and is divided by its sum. One whose sum is not positive, or
+ * that is not given, is uniform. A node whose out-weight is not above 0 dangles: its score goes by the personalization.
  * Reads weights, damping, tolerance and a given personalization.
  * Refuses SIZE, EMPTY, NODE, NUMBER, DAMPING, ROUNDS, LENGTH, ROOM. Room: scores nodes. */
 meadowrut_report meadowrut_personalized_pagerank(
@@ -232,7 +234,7 @@ meadowrut_text meadowrut_run(const uint8_t *input, size_t input_len, uint8_t *ou
 /* The square root of IEEE 754, to nearest, ties to even. Both zeros are their own; below 0 it is a NaN. */
 double meadowrut_sqrt(double x);
 
-/* The absolute value: x with its sign cleared. */
+/* The absolute value: x with its sign cleared; a NaN stays a NaN. */
 double meadowrut_abs(double x);
 
 /* The greater of the two numbers, +0.0 above -0.0; beside a NaN the other one, and a NaN for two NaNs. */

@@ -1,4 +1,4 @@
-/* Calls each function of include/meadowrut.h from C, and checks a result and a refusal that were worked out by hand.
+/* Calls each function of include/meadowrut.h from C, and checks a result and, where it has one, a refusal that were worked out by hand.
  * Prints a line for each that is wrong, and a count. */
 #include "meadowrut.h"
 
