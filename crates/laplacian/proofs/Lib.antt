@@ -2,3 +2,5 @@ pub mod Sums
 pub mod Steps
 pub mod Ending
 pub mod Unique
+pub mod Whole
+pub mod Exact

@@ -1,24 +1,26 @@
 -- What the first and the last steps of a call over rows need and leave: nothing refused, the rows built, the workspace wiped.
 -- `reaching` and `voterank` begin and end so too. Assumes nothing.
-use mathlib.Core.Path.{_≡_, _∙_}
-use mathlib.Core.Bool.{Bool, false}
+use mathlib.Core.Path.{_≡_, refl, sym, ap, _∙_}
+use mathlib.Core.Bool.{Bool, true, false, cond}
 use mathlib.Core.List.{List}
-use Prim.Native.Nat.{ℕ, _≤_}
+use Prim.Native.Nat.{ℕ, _≤_, _<_}
 use native.Mathlib.Omega.{arith}
 use borrow.Author.Tests.{ltb-false}
 use lib.Dec.{ltb}
-use lib.ListN.{length}
-use lib.Ieee.{Float}
-use Rattle.regions.specs.Region.{Front}
-use Rattle.regions.proofs.Fronts.{cleared-afterD}
+use lib.ListN.{length, getD}
+use lib.Ieee.{Float, nan}
+use Rattle.regions.specs.Region.{Front, over, listOf}
+use Rattle.regions.proofs.Fronts.{list-long, cleared-afterD}
+use Rattle.regions.proofs.Parts.{list-at, over-at}
 use Rattle.graph.specs.declared.Fronts.{Fronts}
-use Rattle.answers.specs.Answers.{Said}
+use Rattle.answers.specs.Answers.{Said, done, refusal, refuses, refusedWith}
 use Rattle.graph.specs.Fronts.{usualFronts}
 use Rattle.graph.specs.Given.{Given}
-use Rattle.graph.specs.Left.{left, wiped, Wiped}
+use Rattle.graph.specs.Left.{Left, left, untouched, wiped, Wiped, unlessRefused}
 use Rattle.graph.specs.Pres.{Passed, Ready, Roomy}
-use Rattle.graph.specs.Refusals.{Tests}
-use Rattle.graph.proofs.Refusals.{plainTests, plain-ready, plain-fits}
+use Rattle.graph.specs.Refusals.{Tests, firstRefusal}
+use Rattle.graph.proofs.Left.{went-on}
+use Rattle.graph.proofs.Refusals.{passed, plainTests, plain-ready, plain-fits}
 use Rattle.rows.specs.Rows.{BuildPre}
 
 -- the rows of the table that can hold of a call with n scores
@@ -57,3 +59,30 @@ module _ {R : Type 0} (g : Given R) (ok : Ready g) where
     wiped-is {Values} {f} {w32′} {w64′} {wf′} said r e z =
         let z′ : Wiped fronts w32 w64 wf w32′ w64′ wf′ = rw e at z in
         cc (z′ .p32 ∙ cleared-afterD _ (u .u32), z′ .p64 ∙ cleared-afterD _ (u .u64), z′ .pf ∙ cleared-afterD _ (u .uf))
+
+-- ---- DONE, from what was left
+no-values : {k : ℕ} → refusal k ≡ done (tt {0}) → ⊥
+no-values e = let z : _≡_ {A = ℕ} 0 1 = cc in omega arith
+
+module _ (g : Given (List Float)) (score : ℕ → Float) where
+  -- the work of such a call, and what it leaves
+  abbrev works : Left (Said (Unit {0})) (List Float)
+  works = wiped g (done tt) (over (listOf score (g .nodes)) (g .results))
+
+  abbrev pub leaves : Left (Said (Unit {0})) (List Float)
+  leaves = unlessRefused g (firstRefusal (scoreTests g)) works
+
+  -- nothing refused
+  pub done-passed : leaves .says ≡ done tt → Passed (scoreTests g)
+  done-passed = by (refuses (firstRefusal (scoreTests g))) refl
+    where
+      by : (b : Bool) → refuses (firstRefusal (scoreTests g)) ≡ b → cond b (untouched g (refusedWith (firstRefusal (scoreTests g)))) works .says ≡ done tt → Passed (scoreTests g)
+      by true q e = absurd (no-values e)
+      by false q e = passed (scoreTests g) refl refl q
+
+  -- each node's score stands in its place
+  pub done-at : Passed (scoreTests g) → (v : ℕ) → v < g .nodes → getD (leaves .results) v nan ≡ score v
+  done-at p v l =
+      ap (λ (o : Left (Said (Unit {0})) (List Float)). getD (o .results) v nan) (sym (went-on g (scoreTests g) works p))
+      ∙ over-at (listOf score (g .nodes)) (g .results) nan v (omega (arith, list-long score (g .nodes)))
+      ∙ list-at score (g .nodes) nan v l
