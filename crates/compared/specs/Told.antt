@@ -1,6 +1,5 @@
 -- What a call says, held to its record. Definitions only.
 use mathlib.Core.Path.{_≡_}
-use mathlib.Core.Bool.{Bool, true, false}
 use mathlib.Core.List.{List}
 use Prim.Native.Nat.{ℕ}
 use Rattle.words.specs.declared.Places.{Places}
@@ -11,8 +10,3 @@ use Rattle.lent.specs.declared.Left.{Left}
 abbrev pub Told : List ℕ → Places → Left → Type 0
 Told ws p l =
     (l .answer ≡ wordAt ws (p .said) 0) × (l .settled ≡ wordAt ws (p .said) 1) × (l .rounds ≡ wordAt ws (p .said) 2) × (l .elected ≡ wordAt ws (p .said) 3)
-
--- Where nothing other is found, so it is told.
-abbrev pub ElseTold : Bool → List ℕ → Places → Left → Type 0
-ElseTold true ws p l = Unit
-ElseTold false ws p l = Told ws p l

@@ -10,11 +10,14 @@ use lent::OLDF;
 use lent::RESULTS;
 use lent::WIDE;
 use words::Places;
-ghost use Rattle.compared.specs.Told.{ElseTold};
+ghost use mathlib.Core.Path.{_≡_};
+ghost use lib.ListN.{getD};
+ghost use Rattle.graph.specs.Fronts.{noFronts};
+ghost use Rattle.compared.specs.Other.{isOther32, isOther64, isOtherF, otherCounts, otherScores, otherWork, usesNone, usedFront, recordFront, leavesOther, saysOther, findsOther};
 
 // Whether something said or left is not what the record has.
 pub fn finds_other(words: &[u64], p: Places, edges: usize, left: Left) -> bool
-    ensures { λ r. ⌜ ElseTold r (now (words .entry)) p left ⌝ }
+    ensures { λ r. ⌜ r ≡ findsOther (now (words .entry)) p edges left ⌝ }
 {
     if leaves_other(words, p, edges, left) {
         return true;
@@ -23,7 +26,9 @@ pub fn finds_other(words: &[u64], p: Places, edges: usize, left: Left) -> bool
 }
 
 // Whether a result or the workspace is another.
-fn leaves_other(words: &[u64], p: Places, edges: usize, left: Left) -> bool {
+fn leaves_other(words: &[u64], p: Places, edges: usize, left: Left) -> bool
+    ensures { λ r. ⌜ r ≡ leavesOther (now (words .entry)) p edges left ⌝ }
+{
     let narrow = left.narrow;
     let wide = left.wide;
     if other_counts(words, p, narrow, wide) {
@@ -42,7 +47,7 @@ fn leaves_other(words: &[u64], p: Places, edges: usize, left: Left) -> bool {
 
 // Whether the answer or a report is another.
 fn says_other(words: &[u64], p: Places, left: Left) -> bool
-    ensures { λ r. ⌜ ElseTold r (now (words .entry)) p left ⌝ }
+    ensures { λ r. ⌜ r ≡ saysOther (now (words .entry)) p left ⌝ }
 {
     let place = p.said;
     if left.answer != words::word(words, place, 0) {
@@ -61,7 +66,9 @@ fn says_other(words: &[u64], p: Places, left: Left) -> bool
 }
 
 // Whether a slice of nodes, distances or counts is not the record's results and then what it was.
-fn other_counts(words: &[u64], p: Places, narrow: [u32; RESULTS], wide: [u64; RESULTS]) -> bool {
+fn other_counts(words: &[u64], p: Places, narrow: [u32; RESULTS], wide: [u64; RESULTS]) -> bool
+    ensures { λ r. ⌜ r ≡ otherCounts (now (words .entry)) p narrow wide ⌝ }
+{
     if other32(&narrow, words::results(words, p.narrow)) {
         return true;
     }
@@ -69,7 +76,9 @@ fn other_counts(words: &[u64], p: Places, narrow: [u32; RESULTS], wide: [u64; RE
 }
 
 // The same of a slice of scores.
-fn other_scores(words: &[u64], p: Places, floats: [f64; RESULTS], back: [f64; RESULTS]) -> bool {
+fn other_scores(words: &[u64], p: Places, floats: [f64; RESULTS], back: [f64; RESULTS]) -> bool
+    ensures { λ r. ⌜ r ≡ otherScores (now (words .entry)) p floats back ⌝ }
+{
     if otherf(&floats, words::results(words, p.floats)) {
         return true;
     }
@@ -77,7 +86,9 @@ fn other_scores(words: &[u64], p: Places, floats: [f64; RESULTS], back: [f64; RE
 }
 
 // Whether the workspace is not zero in its used front and then what it was.
-fn other_work(front: Fronts, w32: [u32; NARROW], w64: [u64; WIDE], wf: [f64; FLOATS]) -> bool {
+fn other_work(front: Fronts, w32: [u32; NARROW], w64: [u64; WIDE], wf: [f64; FLOATS]) -> bool
+    ensures { λ r. ⌜ r ≡ otherWork front w32 w64 wf ⌝ }
+{
     let zeros = [0u64; NARROW];
     if other32(&w32, words::front(&zeros, front.narrow)) {
         return true;
@@ -89,7 +100,9 @@ fn other_work(front: Fronts, w32: [u32; NARROW], w64: [u64; WIDE], wf: [f64; FLO
 }
 
 // The front that the record's call uses.
-fn used_by(words: &[u64], p: Places, edges: usize) -> Fronts {
+fn used_by(words: &[u64], p: Places, edges: usize) -> Fronts
+    ensures { λ r. ⌜ r ≡ recordFront (now (words .entry)) p edges ⌝ }
+{
     used(
         words::word(words, 0, 0),
         words::word(words, p.said, 0),
@@ -98,26 +111,38 @@ fn used_by(words: &[u64], p: Places, edges: usize) -> Fronts {
     )
 }
 
-// The front that a call with this answer uses: none for the degrees and after the refusals 1 to 9.
-fn used(call: u64, answer: u64, nodes: usize, edges: usize) -> Fronts {
-    if call < 3 {
+// The front that a call with this answer uses.
+fn used(call: u64, answer: u64, nodes: usize, edges: usize) -> Fronts
+    ensures { λ r. ⌜ r ≡ usedFront call answer nodes edges ⌝ }
+{
+    if uses_none(call, answer) {
         return none();
     }
-    match answer {
-        1..=9 => none(),
-        _ => {
-            if Settings::NODES < nodes {
-                return none();
-            }
-            if Settings::EDGES < edges {
-                return none();
-            }
-            graph::usual_fronts(nodes, edges)
-        }
+    if Settings::NODES < nodes {
+        return none();
     }
+    if Settings::EDGES < edges {
+        return none();
+    }
+    graph::usual_fronts(nodes, edges)
 }
 
-fn none() -> Fronts {
+// The degrees use no workspace, and the refusals 1 to 9 come before it is used.
+fn uses_none(call: u64, answer: u64) -> bool
+    ensures { λ r. ⌜ r ≡ usesNone call answer ⌝ }
+{
+    if call < 3 {
+        return true;
+    }
+    if answer == 0 {
+        return false;
+    }
+    answer < 10
+}
+
+fn none() -> Fronts
+    ensures { λ r. ⌜ r ≡ noFronts ⌝ }
+{
     Fronts {
         narrow: 0,
         wide: 0,
@@ -126,7 +151,9 @@ fn none() -> Fronts {
 }
 
 // Whether a slice does not begin with these numbers, or was changed after them.
-fn other32(slice: &[u32], first: &[u64]) -> bool {
+fn other32(slice: &[u32], first: &[u64]) -> bool
+    ensures { λ r. ⌜ r ≡ isOther32 (now (slice .entry)) (now (first .entry)) ⌝ }
+{
     if slice.len() < first.len() {
         return true;
     }
@@ -140,7 +167,9 @@ fn other32(slice: &[u32], first: &[u64]) -> bool {
     false
 }
 
-fn other64(slice: &[u64], first: &[u64]) -> bool {
+fn other64(slice: &[u64], first: &[u64]) -> bool
+    ensures { λ r. ⌜ r ≡ isOther64 (now (slice .entry)) (now (first .entry)) ⌝ }
+{
     if slice.len() < first.len() {
         return true;
     }
@@ -155,7 +184,9 @@ fn other64(slice: &[u64], first: &[u64]) -> bool {
 }
 
 // By their bits; one NaN is as good as another.
-fn otherf(slice: &[f64], first: &[u64]) -> bool {
+fn otherf(slice: &[f64], first: &[u64]) -> bool
+    ensures { λ r. ⌜ r ≡ isOtherF (now (slice .entry)) (now (first .entry)) ⌝ }
+{
     if slice.len() < first.len() {
         return true;
     }
@@ -170,11 +201,16 @@ fn otherf(slice: &[f64], first: &[u64]) -> bool {
     false
 }
 
-fn widened(x: u32) -> u64 {
+fn widened(x: u32) -> u64
+    ensures { λ r. ⌜ r ≡ x ⌝ }
+{
     x as u64
 }
 
-fn wanted(first: &[u64], i: usize, old: u64) -> u64 {
+// The number that belongs into a slot.
+fn wanted(first: &[u64], i: usize, old: u64) -> u64
+    ensures { λ r. ⌜ r ≡ getD (now (first .entry)) i old ⌝ }
+{
     if i < first.len() {
         return first[i];
     }

@@ -1,15 +1,15 @@
 -- Laws of the numbers in front of a record and of the parts of its line. Assumes nothing.
-use mathlib.Core.Path.{_≡_, refl, sym, ap, _∙_}
+use mathlib.Core.Path.{_≡_}
 use mathlib.Core.Bool.{Bool, true, false}
-use mathlib.Core.List.{List, [], _∷_, _++_, foldl}
-use Prim.Native.Nat.{ℕ, suc, _+_, _-_, _*_, _≤_, _<_}
+use mathlib.Core.List.{List, _++_, foldl}
+use Prim.Native.Nat.{ℕ, _+_, _*_, _≤_, _<_}
 use native.Mathlib.Numerals.{add-one}
 use native.Mathlib.Omega.{arith}
 use lib.ListN.{length, take, drop, getD, length-append, length-drop, drop-of-length-le}
 use lib.Seq.{drop-cons, take-at}
 use borrow.Author.Tests.{lt-ltb, le-ltb}
 use Rattle.text.specs.Text.{digitOf}
-use Rattle.records.specs.Records.{fault, withDigit, numberIn, partOf, Room, withFront}
+use Rattle.records.specs.Records.{fault, withDigit, partOf, Room, withFront}
 
 -- A byte that is no decimal digit.
 pub no-digit : (n b d : ℕ) → d ≡ digitOf b → 9 < d → fault ≡ withDigit n b

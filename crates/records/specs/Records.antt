@@ -2,7 +2,7 @@
 use mathlib.Core.Path.{_≡_}
 use mathlib.Core.Bool.{Bool, true, false, cond}
 use mathlib.Core.List.{List, _++_, foldl}
-use Prim.Native.Nat.{ℕ, _+_, _-_, _*_, _≤_}
+use Prim.Native.Nat.{ℕ, _+_, _*_, _≤_}
 use lib.ListN.{length, take, drop}
 use lib.Dec.{ltb}
 use Rattle.text.specs.Text.{digitOf}
