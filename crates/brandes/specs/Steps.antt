@@ -46,6 +46,7 @@ pub record HeldEntries (n first last base : ℕ) (w32 : List ℕ) : Type 0 where
   pub inside : (w : ℕ) → w < n → base + getD w32 (last + w) 0 ≤ length w32
   pub nodes : (w k : ℕ) → w < n → getD w32 (first + w) 0 ≤ k → k < getD w32 (last + w) 0 → getD w32 (base + k) 0 < n
 
+-- what `leave` asks: a node w, predecessor entries that are nodes, and a count, a score and a delta for each node
 pub record LeavePre (n first last base w : ℕ) (w32 w64 : List ℕ) (wf : List Float) : Type 0 where
   pub kept : HeldEntries n first last base w32
   pub node : w < n

@@ -1,5 +1,5 @@
-// The calls of a record that walk a graph once: degrees, survey, reaching, VoteRank, Laplacian. Each is lent slices of exactly
-// the lengths that the record gives.
+// The calls of a record that are no betweenness and have no rounds: degrees, survey, reaching, VoteRank, Laplacian. Each is lent
+// slices of exactly the lengths that the record gives.
 use lent::FLOATS;
 use lent::Left;
 use lent::NARROW;

@@ -41,6 +41,7 @@ pub record HeldAcross (n t first last pairs base : ℕ) (w32 : List ℕ) (wf : L
   pub deltas : n + n ≤ t
   pub totals : (w k : ℕ) → w < n → getD w32 (first + w) 0 ≤ k → k < getD w32 (last + w) 0 → t + getD w32 (pairs + k) 0 < length wf
 
+-- what `leave` asks: a node w, predecessor entries with their pairs, a total for each pair, and a count and a delta for each node
 pub record LeaveAcrossPre (n t first last pairs base w : ℕ) (w32 w64 : List ℕ) (wf : List Float) : Type 0 where
   pub held : HeldAcross n t first last pairs base w32 wf
   pub node : w < n

@@ -28,7 +28,7 @@ pub fn write_edges(
     let cursors = 2 * nodes + 1 + 4 * edges;
     let totals = 4 * nodes;
     scale_totals(nodes, directed, normalized, 2 * edges, wf);
-    starts::open_lists(nodes, 0, cursors, w32);
+    starts::copy_offsets(nodes, 0, cursors, w32);
     pairs::write_forward(nodes, cursors, beside, totals, from, w32, wf, forward);
     if directed {
         return;

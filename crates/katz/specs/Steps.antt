@@ -14,6 +14,7 @@ pub record BetaPre (n : ℕ) (flag : Bool) (beta wf : List Float) : Type 0 where
   pub room : n + n ≤ length wf
   pub long : flag ≡ true → length beta ≡ n
 
+-- what the rounds ask: a sound graph, n entries of a beta that is given, and room for the two vectors
 pub record RunPre (n : ℕ) (from to : List ℕ) (weight : List Float) (flag : Bool) (beta wf : List Float) : Type 0 where
   pub sound : Sound n from to weight
   pub vectors : BetaPre n flag beta wf

@@ -78,13 +78,13 @@ sharesFrom n w wf k end = listOf (λ j. shareIn n w wf (k + j)) (end - k)
 abbrev pub Given : ℕ → Float → List ℕ → ℕ → ℕ → List Float → List Float → Type 0
 Given n contribution w k end wf wf′ = Vectors n wf (currentIn n wf) (foldl (gives contribution) (nextIn n wf) (sharesFrom n w wf k end)) wf′
 
--- the next vector became the current one, beside it still the next
+-- the next vector became the current one, `change` is how far they were apart, and behind the two vectors nothing differs
 pub record Advanced (n : ℕ) (wf : List Float) (change : Float) (wf′ : List Float) : Type 0 where
   pub front : Front wf (n + n) wf′
   pub current : currentIn n wf′ ≡ nextIn n wf
   pub changed : change ≡ absoluteChange n (currentIn n wf) (nextIn n wf)
 
--- a round was done
+-- a round was done: the current vector is `next` of the one before, and `change` is how far they are apart
 pub record RoundDone (n : ℕ) (next : List Float → List Float) (wf : List Float) (change : Float) (wf′ : List Float) : Type 0 where
   pub front : Front wf (n + n) wf′
   pub current : currentIn n wf′ ≡ next (currentIn n wf)

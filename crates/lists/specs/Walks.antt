@@ -17,11 +17,14 @@ use Rattle.lists.specs.Lists.{listsFront}
 abbrev pub startOf : Bool → List Edge → ℕ → ℕ
 startOf directed es v = sumTo (λ u. length (weighted directed es u)) v
 
--- ---- an entry goes to the place before the last one of its list
+-- ---- placing: lists are filled from their far ends
+
+-- the end of own's list, at w[own], moves back by one, and at that place stand the target `other` and, beside it, the edge's position `at`
 abbrev pub withEntry : ℕ → ℕ → ℕ → ℕ → ℕ → List ℕ → List ℕ
 withEntry n m own other at w =
     set (set (set w own (getD w own 0 - 1)) (entriesAt n + (getD w own 0 - 1)) other) (besideAt n m + (getD w own 0 - 1)) at
 
+-- what `put` asks: a node whose list has a free place before its end, an edge's position, and room for the lists
 pub record PutPre (n m own at : ℕ) (w : List ℕ) : Type 0 where
   pub room : listsFront n m ≤ length w
   pub node : own < n
@@ -29,11 +32,12 @@ pub record PutPre (n m own at : ℕ) (w : List ℕ) : Type 0 where
   pub some : 1 ≤ getD w own 0
   pub inside : getD w own 0 ≤ 2 * m
 
--- one edge's entries
+-- w after one edge gave its entries: one to its from and, undirected, one to its to unless that is its from
 unfoldable pub edgePlaced : ℕ → ℕ → Bool → ℕ → ℕ → ℕ → List ℕ → List ℕ
 edgePlaced n m directed f t at w =
     cond (directed || eqb f t) (withEntry n m f t at w) (withEntry n m t f at (withEntry n m f t at w))
 
+-- what `place_edge` asks: ends that are nodes, a free place for each entry that the edge gives, its position, and room for the lists
 pub record EdgePlacePre (n m : ℕ) (directed : Bool) (f t at : ℕ) (w : List ℕ) : Type 0 where
   pub room : listsFront n m ≤ length w
   pub from : f < n
@@ -43,17 +47,20 @@ pub record EdgePlacePre (n m : ℕ) (directed : Bool) (f t at : ℕ) (w : List �
   pub inside : (v : ℕ) → v < n → getD w v 0 ≤ 2 * m
   pub other : (directed || eqb f t) ≡ false → 1 ≤ getD w t 0
 
--- ---- all edges: at each node stands the end of its list
+-- ---- all edges
+
+-- what `place_entries` asks: a sound graph, room for its lists, and at each node the end of its list
 pub record PlacePre (n : ℕ) (directed : Bool) (from to : List ℕ) (weight : List Float) (w : List ℕ) : Type 0 where
   pub sound : Sound n from to weight
   pub room : listsFront n (length from) ≤ length w
   pub ends : (v : ℕ) → v < n → getD w v 0 ≡ startOf directed (edgesOf from to weight) (v + 1)
   pub total : startOf directed (edgesOf from to weight) n ≤ 2 * length from
 
+-- what is read of a list past its end
 abbrev pub noEntry : Entry
 noEntry = toward 0 (edge 0 0 0 nan)
 
--- then its start, and behind it the entries of its list
+-- what it leaves: at each node the start of its list, from there its entries, and behind the lists w as it was
 pub record Placed (n : ℕ) (directed : Bool) (from to : List ℕ) (weight : List Float) (w w′ : List ℕ) : Type 0 where
   pub front : Front w (listsFront n (length from)) w′
   pub last : getD w′ n 0 ≡ getD w n 0

@@ -46,13 +46,14 @@ pub record CrossPost (n m s : ℕ) (w c : List ℕ) (f : List Float) (w′ c′ 
       → TotalsHeld (graphOf n directed es) w′ f′ (totalsFrom (graphOf n directed es) s total .total)
   pub paths : (directed : Bool) (es : List Edge) → StillPairs (graphOf n directed es) m w c f → exceeds pathLimit (graphOf n directed es) s ≡ r
 
--- all starts
+-- what all starts ask: there is a graph whose rows stand in w, between two starts
 pub record CrossAllPre (n m : ℕ) (w c : List ℕ) (f : List Float) : Type 0 where
   pub directed : Bool
   pub edges : List Edge
   pub still : StillPairs (graphOf n directed edges) m w c f
   pub limits : Limits n m
 
+-- what they leave, of every graph whose rows stand in w: the totals after the last start, or some path count above the limit
 pub record CrossAllPost (n m : ℕ) (w c : List ℕ) (f : List Float) (w′ c′ : List ℕ) (f′ : List Float) (r : Bool) : Type 0 where
   pub within : Within n m w c f w′ c′ f′
   pub still : r ≡ false → (directed : Bool) (es : List Edge) → StillPairs (graphOf n directed es) m w c f → StillPairs (graphOf n directed es) m w′ c′ f′

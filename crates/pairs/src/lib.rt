@@ -7,8 +7,8 @@ ghost use lib.ListN.{length};
 ghost use Rattle.pairs.specs.Numbers.{NumberPre, NumberPost, RowPre, RowNumbered};
 ghost use Rattle.pairs.specs.Writes.{WalkPre, ForwardPost, BackPre, BackTotal, BackPost};
 
-// Beside each row entry, from `beside`, the number of its pair: the place of the first entry of the row that leads to the same node. `marks` is
-// where each node's last such place is kept.
+// Beside each row entry, from `beside`, the number of its pair: the place of the first entry of the row that leads to the same node. From `marks`
+// each node has the last such place + 1, and 0 before there is one.
 pub fn number_pairs(nodes: usize, beside: usize, marks: usize, w32: &mut [u32])
     requires { ⌜ NumberPre nodes beside marks (now w32) ⌝ }
     ensures { λ _. ⌜ NumberPost nodes beside marks (now (w32 .entry)) (now (w32 .exit)) ⌝ }

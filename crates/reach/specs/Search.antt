@@ -14,6 +14,8 @@ use Rattle.hops.specs.Search.{graphOf, RowsOf, Search}
 use Rattle.reach.specs.Reach.{inReach}
 
 -- ---- one entry
+
+-- what `meet` asks: w has the distance of x and, if x has none yet, the place of the queue
 pub record MeetPre (x D place : ℕ) (w : List ℕ) : Type 0 where
   pub distance : D + x < length w
   pub slot : getD w (D + x) 0 ≡ unreached → place < length w
@@ -22,10 +24,11 @@ pub record MeetPre (x D place : ℕ) (w : List ℕ) : Type 0 where
 abbrev pub unmet : ℕ → ℕ → List ℕ → Bool
 unmet x D w = eqb (getD w (D + x) 0) unreached
 
--- then it is given one, and a place in the queue
+-- w after x was met: if it had no distance, it has `further`, and stands at `place` of the queue
 abbrev pub met : ℕ → ℕ → ℕ → ℕ → List ℕ → List ℕ
 met x further D place w = cond (unmet x D w) (set (set w (D + x) further) place x) w
 
+-- what `meet` leaves: x met, and by how many the queue grows
 pub record Met (x further D place : ℕ) (w w′ : List ℕ) (r : ℕ) : Type 0 where
   pub stored : w′ ≡ met x further D place w
   pub more : r ≡ onlyIf (unmet x D w) 1
@@ -64,9 +67,11 @@ pub record SpreadPost (n u further D Q tail : ℕ) (w w′ : List ℕ) (r : ℕ)
 pub record Within (g : Graph) (limit s : ℕ) (w : List ℕ) (D Q tail : ℕ) : Type 0 where
   pub taken : tail ≤ g .nodes
   pub queued : (i : ℕ) → i < tail → getD w (Q + i) 0 < g .nodes
+  -- a node with a distance stands in the queue
   pub labelled : (v : ℕ) → v < g .nodes → getD w (D + v) 0 ≢ unreached → (i : ℕ) × (i < tail) × (getD w (Q + i) 0 ≡ v)
   pub many : tail ≡ sumOver (below (g .nodes)) (λ v. onlyIf (inReach g limit s v) 1)
 
+-- what `reach_within` asks: a search that begins, of some graph and start, with every distance within the limit
 pub record WithinPre (n limit D Q : ℕ) (w : List ℕ) : Type 0 where
   pub directed : Bool
   pub edges : List Edge
@@ -74,6 +79,7 @@ pub record WithinPre (n limit D Q : ℕ) (w : List ℕ) : Type 0 where
   pub walk : Walk (graphOf n directed edges) start w D Q 0 1 (getD w (Q + 0) 0) 0
   pub near : Near n limit D w
 
+-- what it leaves, of every graph and start whose search begins so: the queue has the r nodes within the limit; w differs at distances and queue only
 pub record WithinPost (n limit D Q : ℕ) (w w′ : List ℕ) (r : ℕ) : Type 0 where
   pub kept : Frame2 w D n Q n w′
   pub reached : (directed : Bool) (es : List Edge) (s : ℕ) → Walk (graphOf n directed es) s w D Q 0 1 (getD w (Q + 0) 0) 0 → Near n limit D w
@@ -88,12 +94,14 @@ pub record Ground (g : Graph) (w : List ℕ) (D Q : ℕ) : Type 0 where
   pub room : Q + g .nodes ≤ length w
   pub far : (v : ℕ) → v < g .nodes → getD w (D + v) 0 ≡ unreached
 
+-- what `reach_from` asks: the rows of some graph in w, none of its nodes with a distance, and a start
 pub record FromPre (n s D Q : ℕ) (w : List ℕ) : Type 0 where
   pub directed : Bool
   pub edges : List Edge
   pub ground : Ground (graphOf n directed edges) w D Q
   pub start : s < n
 
+-- what it leaves, of every graph whose rows stand in w: the queue has the r nodes within the limit of s; w differs at distances and queue only
 pub record FromPost (n limit s D Q : ℕ) (w w′ : List ℕ) (r : ℕ) : Type 0 where
   pub kept : Frame2 w D n Q n w′
   pub reached : (directed : Bool) (es : List Edge) → Ground (graphOf n directed es) w D Q → Within (graphOf n directed es) limit s w′ D Q r

@@ -1,4 +1,4 @@
--- What the steps of eigenvector and Katz promise each other. Definitions only.
+-- What the steps of eigenvector and Katz promise each other, and what the rounds of all four iterative measures leave. Definitions only.
 use mathlib.Core.Path.{_≡_}
 use mathlib.Core.Bool.{Bool}
 use mathlib.Core.List.{List}

@@ -57,13 +57,14 @@ pub record StartPost (n m s : ℕ) (w c : List ℕ) (f : List Float) (w′ c′ 
   pub scored : r ≡ false → (directed : Bool) (es : List Edge) → Still (graphOf n directed es) m w c f → (scores : List Float) → Scored n f scores → Scored n f′ (fromStart (graphOf n directed es) s scores .scores)
   pub paths : (directed : Bool) (es : List Edge) → Still (graphOf n directed es) m w c f → exceeds pathLimit (graphOf n directed es) s ≡ r
 
--- what all starts leave
+-- what all starts ask: there is a graph whose rows stand in w, between two starts
 pub record StartsPre (n m : ℕ) (w c : List ℕ) (f : List Float) : Type 0 where
   pub directed : Bool
   pub edges : List Edge
   pub still : Still (graphOf n directed edges) m w c f
   pub limits : Limits n m
 
+-- what they leave, of every graph whose rows stand in w: the scores after the last start, or some path count above the limit
 pub record StartsPost (n m : ℕ) (w c : List ℕ) (f : List Float) (w′ c′ : List ℕ) (f′ : List Float) (r : Bool) : Type 0 where
   pub within : Within n m w c f w′ c′ f′
   pub scored : r ≡ false → (directed : Bool) (es : List Edge) → Still (graphOf n directed es) m w c f → Scored n f (scoresAfter (graphOf n directed es) 0) → Scored n f′ (scoresAfter (graphOf n directed es) n)

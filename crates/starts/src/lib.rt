@@ -26,7 +26,7 @@ pub fn prepare(
     regions::fill32(w32, distances, nodes, hops::UNREACHED);
     regions::fill64(w64, 0, nodes, 0);
     index_entries(nodes, directed, from, to, weight, w32);
-    open_lists(nodes, first, last, w32);
+    copy_offsets(nodes, first, last, w32);
     regions::fillf(wf, 0, 2 * nodes, 0.0);
 }
 
@@ -46,14 +46,14 @@ fn index_entries(
     rows::build_rows(nodes, directed, to, from, weight, &mut w32[first..]);
 }
 
-// No node has a predecessor entry: each one's end is where its places begin.
-pub fn open_lists(nodes: usize, first: usize, last: usize, w32: &mut [u32])
-    requires { ⌜ Apart (now w32) first last nodes ⌝ }
-    ensures { λ _. ⌜ Copied (now (w32 .entry)) first (now (w32 .entry)) last nodes (now (w32 .exit)) ⌝ }
+// Each node's offset, once more from `copies`: as the end of entries of which there are none yet, or as a cursor before the first.
+pub fn copy_offsets(nodes: usize, offsets: usize, copies: usize, w32: &mut [u32])
+    requires { ⌜ Apart (now w32) offsets copies nodes ⌝ }
+    ensures { λ _. ⌜ Copied (now (w32 .entry)) offsets (now (w32 .entry)) copies nodes (now (w32 .exit)) ⌝ }
 {
     let mut v = 0;
     while v < nodes {
-        w32[last + v] = w32[first + v];
+        w32[copies + v] = w32[offsets + v];
         v += 1;
     }
 }

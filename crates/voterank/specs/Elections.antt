@@ -19,6 +19,7 @@ pollAt n k elected w = poll (take n w) (take k elected)
 abbrev pub graphFrom : ℕ → Bool → List ℕ → List ℕ → List Float → Graph
 graphFrom n directed from to weight = record { nodes = n; directed = directed; edges = edgesOf from to weight }
 
+-- what `elect` asks: edges whose ends are nodes, the rows of their graph in r, no more seats than nodes, a slot for each, and room for abilities and votes
 pub record ElectPre (n : ℕ) (directed : Bool) (from to : List ℕ) (weight : List Float) (seats : ℕ) (elected r : List ℕ) (w : List Float) : Type 0 where
   pub sized : Sized from to weight
   pub ends : Inside n from to

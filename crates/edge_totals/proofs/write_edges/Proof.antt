@@ -35,11 +35,11 @@ mul-scale-totals c = omega (arith, c .before .before .before .before .before .be
 scale-totals-requires : tie.Need-scale-totals-requires
 scale-totals-requires c κs = scale-asks (c .before .before .before .before .before .before .before .pre)
 
-open-lists-requires : tie.Need-open-lists-requires
-open-lists-requires c κs = cursors-ask (c .before .before .before .before .before .before .before .before .before .before .before .pre)
+copy-offsets-requires : tie.Need-copy-offsets-requires
+copy-offsets-requires c κs = cursors-ask (c .before .before .before .before .before .before .before .before .before .before .before .pre)
 
 write-forward-requires : tie.Need-write-forward-requires
-write-forward-requires c κs = forward-asks (c .before .before .before .before .before .before .before .before .before .before .before .before .before .before .before .before .before .pre) (c .before .before .before .before .before .before .before .before .before .scale-totals .ensures) (c .before .before .before .before .before .open-lists .ensures)
+write-forward-requires c κs = forward-asks (c .before .before .before .before .before .before .before .before .before .before .before .before .before .before .before .before .before .pre) (c .before .before .before .before .before .before .before .before .before .scale-totals .ensures) (c .before .before .before .before .before .copy-offsets .ensures)
 
 same-length : tie.Need-same-length
 same-length c = search needs
@@ -51,10 +51,10 @@ same-length-3 : tie.Need-same-length-3
 same-length-3 c = search needs
 
 returns : tie.Need-returns
-returns c = written-directed (c .before .before .before .before .before .before .before .before .before .before .before .before .before .before .before .before .before .before .before .before .before .before .before .pre) (c .before .before .before .before .before .before .before .before .before .before .before .before .before .before .before .scale-totals .ensures) (c .before .before .before .before .before .before .before .before .before .before .before .open-lists .ensures) (c .before .before .before .before .before .write-forward .ensures) (c .if1 .taken)
+returns c = written-directed (c .before .before .before .before .before .before .before .before .before .before .before .before .before .before .before .before .before .before .before .before .before .before .before .pre) (c .before .before .before .before .before .before .before .before .before .before .before .before .before .before .before .scale-totals .ensures) (c .before .before .before .before .before .before .before .before .before .before .before .copy-offsets .ensures) (c .before .before .before .before .before .write-forward .ensures) (c .if1 .taken)
 
 write-back-requires : tie.Need-write-back-requires
-write-back-requires c κs = back-asks (c .before .before .before .before .before .before .before .before .before .before .before .before .before .before .before .before .before .before .before .before .before .before .before .before .before .before .before .pre) (c .before .before .before .before .before .before .before .before .before .before .before .before .before .before .before .before .before .before .before .scale-totals .ensures) (c .before .before .before .before .before .before .before .before .before .before .before .before .before .before .before .open-lists .ensures) (c .before .before .before .before .before .before .before .before .before .write-forward .ensures) (c .before .before .before .before .if1 .left)
+write-back-requires c κs = back-asks (c .before .before .before .before .before .before .before .before .before .before .before .before .before .before .before .before .before .before .before .before .before .before .before .before .before .before .before .pre) (c .before .before .before .before .before .before .before .before .before .before .before .before .before .before .before .before .before .before .before .scale-totals .ensures) (c .before .before .before .before .before .before .before .before .before .before .before .before .before .before .before .copy-offsets .ensures) (c .before .before .before .before .before .before .before .before .before .write-forward .ensures) (c .before .before .before .before .if1 .left)
 
 same-length-4 : tie.Need-same-length-4
 same-length-4 c = search needs
@@ -69,7 +69,7 @@ same-length-7 : tie.Need-same-length-7
 same-length-7 c = search needs
 
 returns-2 : tie.Need-returns-2
-returns-2 c = written-both (c .before .before .before .before .before .before .before .before .before .before .before .before .before .before .before .before .before .before .before .before .before .before .before .before .before .before .before .before .before .before .before .before .pre) (c .before .before .before .before .before .before .before .before .before .before .before .before .before .before .before .before .before .before .before .before .before .before .before .before .scale-totals .ensures) (c .before .before .before .before .before .before .before .before .before .before .before .before .before .before .before .before .before .before .before .before .open-lists .ensures) (c .before .before .before .before .before .before .before .before .before .before .before .before .before .before .write-forward .ensures) (c .before .before .before .before .before .before .before .before .before .if1 .left) (c .before .before .before .before .write-back .ensures)
+returns-2 c = written-both (c .before .before .before .before .before .before .before .before .before .before .before .before .before .before .before .before .before .before .before .before .before .before .before .before .before .before .before .before .before .before .before .before .pre) (c .before .before .before .before .before .before .before .before .before .before .before .before .before .before .before .before .before .before .before .before .before .before .before .before .scale-totals .ensures) (c .before .before .before .before .before .before .before .before .before .before .before .before .before .before .before .before .before .before .before .before .copy-offsets .ensures) (c .before .before .before .before .before .before .before .before .before .before .before .before .before .before .write-forward .ensures) (c .before .before .before .before .before .before .before .before .before .if1 .left) (c .before .before .before .before .write-back .ensures)
 
 pub write-edges-spec : {M : Type 1} → statement M
 write-edges-spec =
@@ -85,7 +85,7 @@ write-edges-spec =
     mul-totals
     mul-scale-totals
     scale-totals-requires
-    open-lists-requires
+    copy-offsets-requires
     write-forward-requires
     same-length
     same-length-2

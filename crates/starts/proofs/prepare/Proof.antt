@@ -50,8 +50,8 @@ fill64-requires c κs = omega (arith, c .before .before .before .before .before 
 index-entries-requires : tie.Need-index-entries-requires
 index-entries-requires c κs = index-asks (c .before .before .before .before .before .before .before .before .before .before .before .before .before .before .before .before .before .before .before .args .directed) (c .before .before .before .before .before .before .before .before .before .before .before .before .before .before .before .before .before .before .before .pre) (c .before .before .before .before .before .before .before .before .before .before .before .build-rows .ensures) (c .before .before .before .before .before .before .before .fill32 .ensures)
 
-open-lists-requires : tie.Need-open-lists-requires
-open-lists-requires c κs = lists-apart (c .before .before .before .before .before .before .before .before .before .before .before .before .before .before .before .before .before .before .before .before .before .before .before .args .directed) (c .before .before .before .before .before .before .before .before .before .before .before .before .before .before .before .before .before .before .before .before .before .before .before .pre) (c .before .before .before .before .before .before .before .before .before .before .before .before .before .before .before .build-rows .ensures) (c .before .before .before .before .before .before .before .before .before .before .before .fill32 .ensures) (c .before .before .before .index-entries .ensures)
+copy-offsets-requires : tie.Need-copy-offsets-requires
+copy-offsets-requires c κs = lists-apart (c .before .before .before .before .before .before .before .before .before .before .before .before .before .before .before .before .before .before .before .before .before .before .before .args .directed) (c .before .before .before .before .before .before .before .before .before .before .before .before .before .before .before .before .before .before .before .before .before .before .before .pre) (c .before .before .before .before .before .before .before .before .before .before .before .before .before .before .before .build-rows .ensures) (c .before .before .before .before .before .before .before .before .before .before .before .fill32 .ensures) (c .before .before .before .index-entries .ensures)
 
 mul-fillf : tie.Need-mul-fillf
 mul-fillf c = omega (arith, c .before .before .before .before .before .before .before .before .before .before .before .before .before .before .before .before .before .before .before .before .before .before .before .before .before .before .before .pre .sound .limits)
@@ -61,19 +61,19 @@ fillf-requires c κs = omega (arith, c .before .before .before .before .before .
 
 same-length : tie.Need-same-length
 unfolding ofBits
-same-length c = prepared (c .before .before .before .before .before .before .before .before .before .before .before .before .before .before .before .before .before .before .before .before .before .before .before .before .before .before .before .before .before .before .args .directed) (c .before .before .before .before .before .before .before .before .before .before .before .before .before .before .before .before .before .before .before .before .before .before .before .before .before .before .before .before .before .before .pre) (c .before .before .before .before .before .before .before .before .before .before .before .before .before .before .before .before .before .before .before .before .before .before .build-rows .ensures) (c .before .before .before .before .before .before .before .before .before .before .before .before .before .before .before .before .before .before .fill32 .ensures) (c .before .before .before .before .before .before .before .before .before .before .index-entries .ensures) (c .before .before .before .before .before .before .before .before .before .before .before .before .before .before .fill64 .ensures) (c .before .before .before .before .before .before .open-lists .ensures) (c .before .before .fillf .ensures) .within .narrow .long
+same-length c = prepared (c .before .before .before .before .before .before .before .before .before .before .before .before .before .before .before .before .before .before .before .before .before .before .before .before .before .before .before .before .before .before .args .directed) (c .before .before .before .before .before .before .before .before .before .before .before .before .before .before .before .before .before .before .before .before .before .before .before .before .before .before .before .before .before .before .pre) (c .before .before .before .before .before .before .before .before .before .before .before .before .before .before .before .before .before .before .before .before .before .before .build-rows .ensures) (c .before .before .before .before .before .before .before .before .before .before .before .before .before .before .before .before .before .before .fill32 .ensures) (c .before .before .before .before .before .before .before .before .before .before .index-entries .ensures) (c .before .before .before .before .before .before .before .before .before .before .before .before .before .before .fill64 .ensures) (c .before .before .before .before .before .before .copy-offsets .ensures) (c .before .before .fillf .ensures) .within .narrow .long
 
 same-length-2 : tie.Need-same-length-2
 unfolding ofBits
-same-length-2 c = prepared (c .before .before .before .before .before .before .before .before .before .before .before .before .before .before .before .before .before .before .before .before .before .before .before .before .before .before .before .before .before .before .args .directed) (c .before .before .before .before .before .before .before .before .before .before .before .before .before .before .before .before .before .before .before .before .before .before .before .before .before .before .before .before .before .before .pre) (c .before .before .before .before .before .before .before .before .before .before .before .before .before .before .before .before .before .before .before .before .before .before .build-rows .ensures) (c .before .before .before .before .before .before .before .before .before .before .before .before .before .before .before .before .before .before .fill32 .ensures) (c .before .before .before .before .before .before .before .before .before .before .index-entries .ensures) (c .before .before .before .before .before .before .before .before .before .before .before .before .before .before .fill64 .ensures) (c .before .before .before .before .before .before .open-lists .ensures) (c .before .before .fillf .ensures) .within .wide .long
+same-length-2 c = prepared (c .before .before .before .before .before .before .before .before .before .before .before .before .before .before .before .before .before .before .before .before .before .before .before .before .before .before .before .before .before .before .args .directed) (c .before .before .before .before .before .before .before .before .before .before .before .before .before .before .before .before .before .before .before .before .before .before .before .before .before .before .before .before .before .before .pre) (c .before .before .before .before .before .before .before .before .before .before .before .before .before .before .before .before .before .before .before .before .before .before .build-rows .ensures) (c .before .before .before .before .before .before .before .before .before .before .before .before .before .before .before .before .before .before .fill32 .ensures) (c .before .before .before .before .before .before .before .before .before .before .index-entries .ensures) (c .before .before .before .before .before .before .before .before .before .before .before .before .before .before .fill64 .ensures) (c .before .before .before .before .before .before .copy-offsets .ensures) (c .before .before .fillf .ensures) .within .wide .long
 
 same-length-3 : tie.Need-same-length-3
 unfolding ofBits
-same-length-3 c = prepared (c .before .before .before .before .before .before .before .before .before .before .before .before .before .before .before .before .before .before .before .before .before .before .before .before .before .before .before .before .before .before .args .directed) (c .before .before .before .before .before .before .before .before .before .before .before .before .before .before .before .before .before .before .before .before .before .before .before .before .before .before .before .before .before .before .pre) (c .before .before .before .before .before .before .before .before .before .before .before .before .before .before .before .before .before .before .before .before .before .before .build-rows .ensures) (c .before .before .before .before .before .before .before .before .before .before .before .before .before .before .before .before .before .before .fill32 .ensures) (c .before .before .before .before .before .before .before .before .before .before .index-entries .ensures) (c .before .before .before .before .before .before .before .before .before .before .before .before .before .before .fill64 .ensures) (c .before .before .before .before .before .before .open-lists .ensures) (c .before .before .fillf .ensures) .within .floats .long
+same-length-3 c = prepared (c .before .before .before .before .before .before .before .before .before .before .before .before .before .before .before .before .before .before .before .before .before .before .before .before .before .before .before .before .before .before .args .directed) (c .before .before .before .before .before .before .before .before .before .before .before .before .before .before .before .before .before .before .before .before .before .before .before .before .before .before .before .before .before .before .pre) (c .before .before .before .before .before .before .before .before .before .before .before .before .before .before .before .before .before .before .before .before .before .before .build-rows .ensures) (c .before .before .before .before .before .before .before .before .before .before .before .before .before .before .before .before .before .before .fill32 .ensures) (c .before .before .before .before .before .before .before .before .before .before .index-entries .ensures) (c .before .before .before .before .before .before .before .before .before .before .before .before .before .before .fill64 .ensures) (c .before .before .before .before .before .before .copy-offsets .ensures) (c .before .before .fillf .ensures) .within .floats .long
 
 returns : tie.Need-returns
 unfolding ofBits
-returns c = prepared (c .before .before .before .before .before .before .before .before .before .before .before .before .before .before .before .before .before .before .before .before .before .before .before .before .before .before .before .before .before .before .args .directed) (c .before .before .before .before .before .before .before .before .before .before .before .before .before .before .before .before .before .before .before .before .before .before .before .before .before .before .before .before .before .before .pre) (c .before .before .before .before .before .before .before .before .before .before .before .before .before .before .before .before .before .before .before .before .before .before .build-rows .ensures) (c .before .before .before .before .before .before .before .before .before .before .before .before .before .before .before .before .before .before .fill32 .ensures) (c .before .before .before .before .before .before .before .before .before .before .index-entries .ensures) (c .before .before .before .before .before .before .before .before .before .before .before .before .before .before .fill64 .ensures) (c .before .before .before .before .before .before .open-lists .ensures) (c .before .before .fillf .ensures)
+returns c = prepared (c .before .before .before .before .before .before .before .before .before .before .before .before .before .before .before .before .before .before .before .before .before .before .before .before .before .before .before .before .before .before .args .directed) (c .before .before .before .before .before .before .before .before .before .before .before .before .before .before .before .before .before .before .before .before .before .before .before .before .before .before .before .before .before .before .pre) (c .before .before .before .before .before .before .before .before .before .before .before .before .before .before .before .before .before .before .before .before .before .before .build-rows .ensures) (c .before .before .before .before .before .before .before .before .before .before .before .before .before .before .before .before .before .before .fill32 .ensures) (c .before .before .before .before .before .before .before .before .before .before .index-entries .ensures) (c .before .before .before .before .before .before .before .before .before .before .before .before .before .before .fill64 .ensures) (c .before .before .before .before .before .before .copy-offsets .ensures) (c .before .before .fillf .ensures)
 
 pub prepare-spec : {M : Type 1} → statement M
 prepare-spec =
@@ -94,7 +94,7 @@ prepare-spec =
     fill32-requires
     fill64-requires
     index-entries-requires
-    open-lists-requires
+    copy-offsets-requires
     mul-fillf
     fillf-requires
     same-length

@@ -1,18 +1,18 @@
--- `starts::open_lists` meets its contract: after v turns the ends of the first v nodes are written. Assumes nothing.
+-- `starts::copy_offsets` meets its contract: after v turns the offsets of the first v nodes are copied. Assumes nothing.
 use mathlib.Core.Path.{_≡_, subst}
 use Prim.Native.Nat.{ℕ, _-_, _≤_}
 use native.Mathlib.Omega.{arith}
 use Rattle.regions.specs.Region.{Copied}
 use Rattle.regions.proofs.Frames.{copied-none, copied-more, copied-source}
 use borrow.Author.Needs.{needs}
-use Rattle.starts.proofs.open_lists.Statement.{statement}
-use Rattle.starts.proofs.open_lists.Tie as tie
+use Rattle.starts.proofs.copy_offsets.Statement.{statement}
+use Rattle.starts.proofs.copy_offsets.Tie as tie
 
 abbrev Inv-loop : tie.InvT-loop
-Inv-loop nodes first last w32₀ v₀ w32 v = (v ≤ nodes) × Copied w32₀ first w32₀ last v w32
+Inv-loop nodes offsets copies w32₀ v₀ w32 v = (v ≤ nodes) × Copied w32₀ offsets w32₀ copies v w32
 
 abbrev μ-loop : tie.MeasureT-loop
-μ-loop nodes first last w32₀ v₀ w32 v = nodes - v
+μ-loop nodes offsets copies w32₀ v₀ w32 v = nodes - v
 
 loop-holds : tie.Need-loop-holds Inv-loop μ-loop
 loop-holds c = (omega arith, copied-none _ _ _ _)
@@ -54,10 +54,10 @@ returns : tie.Need-returns Inv-loop μ-loop
 returns c =
     let s = c .before .before .args in
     let e : c .before .loop .v ≡ s .nodes = omega arith in
-    subst (λ (k : ℕ). Copied (s .w32 .now) (s .first) (s .w32 .now) (s .last) k (c .before .loop .w32)) e (c .before .loop .inv .1)
+    subst (λ (k : ℕ). Copied (s .w32 .now) (s .offsets) (s .w32 .now) (s .copies) k (c .before .loop .w32)) e (c .before .loop .inv .1)
 
-pub open-lists-spec : {M : Type 1} → statement M
-open-lists-spec =
+pub copy-offsets-spec : {M : Type 1} → statement M
+copy-offsets-spec =
     tie.close
     (tie.spec
     Inv-loop
