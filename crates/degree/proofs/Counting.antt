@@ -10,7 +10,7 @@ use borrow.Author.Tests.{eqb-true, eqb-false}
 use lib.Dec.{eqb}
 use lib.IntN.{pos}
 use lib.ListN.{length, getD, set, take, length-set}
-use lib.Seq.{take-suc, take-length, length-take-le}
+use lib.Seq.{take-suc, take-length}
 use lib.Ieee.{Float, binary64, nan, add, ofInt}
 use Rattle.regions.specs.Doubles.{one}
 use Rattle.regions.specs.Region.{Front, zeroF, cleared}
@@ -19,7 +19,7 @@ use Rattle.regions.proofs.Fronts.{front-none, front-set, front-then, hitD, miss
 use Rattle.graph.specs.Edges.{edgesFrom, oneIf}
 use Rattle.graph.specs.Pres.{Sized}
 use Rattle.degree.specs.Degree.{endCount}
-use Rattle.degree.specs.Tally.{plusOne, tally, inTurn, pairTally, TallyPre}
+use Rattle.degree.specs.Tally.{plusOne, tally, inTurn}
 use Rattle.degree.proofs.Exact.{one-more}
 
 -- how many of the ends are v
@@ -92,12 +92,12 @@ tally-more ends i w₀ w l e =
     ∙ foldl-append plusOne w₀ (take i ends) (getD ends i 0 ∷ []))
 
 -- ---- both ends of an edge in turn
-in-turn-last : (fs ts : List ℕ) (f t : ℕ) → length ts ≡ length fs → inTurn (fs ++ (f ∷ [])) (ts ++ (t ∷ [])) ≡ inTurn fs ts ++ (f ∷ t ∷ [])
+pub in-turn-then : (fs ts gs us : List ℕ) → length ts ≡ length fs → inTurn (fs ++ gs) (ts ++ us) ≡ inTurn fs ts ++ inTurn gs us
 unfolding inTurn
-in-turn-last [] [] f t e = refl
-in-turn-last [] (y ∷ ts) f t e = absurd (omega arith)
-in-turn-last (x ∷ fs) [] f t e = absurd (omega arith)
-in-turn-last (x ∷ fs) (y ∷ ts) f t e = ap (λ (l : List ℕ). x ∷ y ∷ l) (in-turn-last fs ts f t (omega arith))
+in-turn-then [] [] gs us e = refl
+in-turn-then [] (y ∷ ts) gs us e = absurd (omega arith)
+in-turn-then (x ∷ fs) [] gs us e = absurd (omega arith)
+in-turn-then (x ∷ fs) (y ∷ ts) gs us e = ap (λ (l : List ℕ). x ∷ y ∷ l) (in-turn-then fs ts gs us (omega arith))
 
 pub in-turn-count : (v : ℕ) (fs ts : List ℕ) → length ts ≡ length fs → countIn v (inTurn fs ts) ≡ countIn v fs + countIn v ts
 unfolding inTurn
@@ -119,23 +119,6 @@ in-turn-inside n (x ∷ fs) [] p q i l = absurd (omega arith)
 in-turn-inside n (x ∷ fs) (y ∷ ts) p q zero l = p 0 (omega arith)
 in-turn-inside n (x ∷ fs) (y ∷ ts) p q (suc zero) l = q 0 (omega arith)
 in-turn-inside n (x ∷ fs) (y ∷ ts) p q (suc (suc i)) l = in-turn-inside n fs ts (λ j h. p (suc j) (omega arith)) (λ j h. q (suc j) (omega arith)) i (omega arith)
-
-pub pairs-none : (fs ts : List ℕ) (w : List Float) → w ≡ pairTally fs ts 0 w
-unfolding pairTally inTurn
-pairs-none fs ts w = refl
-
-pub pairs-more : (fs ts : List ℕ) (i : ℕ) (w₀ w : List Float) → i < length fs → i < length ts → w ≡ pairTally fs ts i w₀ → plusOne (plusOne w (getD fs i 0)) (getD ts i 0) ≡ pairTally fs ts (i + 1) w₀
-unfolding pairTally
-pairs-more fs ts i w₀ w lf lt e =
-    let a : length (take i fs) ≡ i = length-take-le i fs (omega arith) in
-    let b : length (take i ts) ≡ i = length-take-le i ts (omega arith) in
-    ap (λ (x : List Float). plusOne (plusOne x (getD fs i 0)) (getD ts i 0)) e
-    ∙ sym
-    (ap (λ (k : ℕ). foldl plusOne w₀ (inTurn (take k fs) (take k ts))) (add-one i)
-    ∙ ap (λ (l : List ℕ). foldl plusOne w₀ (inTurn l (take (suc i) ts))) (take-suc fs i 0 lf)
-    ∙ ap (λ (l : List ℕ). foldl plusOne w₀ (inTurn (take i fs ++ (getD fs i 0 ∷ [])) l)) (take-suc ts i 0 lt)
-    ∙ ap (foldl plusOne w₀) (in-turn-last (take i fs) (take i ts) (getD fs i 0) (getD ts i 0) (b ∙ sym a))
-    ∙ foldl-append plusOne w₀ (inTurn (take i fs) (take i ts)) (getD fs i 0 ∷ getD ts i 0 ∷ []))
 
 -- ---- the ends of the edges, list by list
 both-ends : (p q : Bool) (k : ℕ) (fs ts : List ℕ) (xs : List Float) (v : ℕ) → Sized fs ts xs → endCount p q (edgesFrom k fs ts xs) v ≡ countIn v (cond p fs []) + countIn v (cond q ts [])

@@ -1,7 +1,7 @@
 -- The walk that counts ends in the scores themselves. Definitions only.
 use mathlib.Core.List.{List, [], _∷_, foldl}
-use Prim.Native.Nat.{ℕ, _≤_, _<_}
-use lib.ListN.{length, getD, set, take}
+use Prim.Native.Nat.{ℕ, _-_, _≤_, _<_}
+use lib.ListN.{length, getD, set, take, drop}
 use lib.Ieee.{Float, binary64, nan, add}
 use Rattle.regions.specs.Doubles.{one}
 
@@ -22,6 +22,10 @@ inTurn (f ∷ fs) (t ∷ ts) = f ∷ t ∷ inTurn fs ts
 -- the scores with one more at both ends of the first `many` edges
 unfoldable pub pairTally : List ℕ → List ℕ → ℕ → List Float → List Float
 pairTally fs ts many w = foldl plusOne w (inTurn (take many fs) (take many ts))
+
+-- the scores with one more at both ends of the edges from `first` to before `end`
+abbrev pub pairsFrom : List ℕ → List ℕ → ℕ → ℕ → List Float → List Float
+pairsFrom fs ts first end w = pairTally (drop first fs) (drop first ts) (end - first) w
 
 pub record TallyPre (ends : List ℕ) (many : ℕ) (w : List Float) : Type 0 where
   pub some : many ≤ length ends

@@ -6,13 +6,15 @@ use answers::Refusal;
 ghost use mathlib.Core.Path.{_≡_};
 ghost use mathlib.Core.Bool.{cond, false, true};
 ghost use mathlib.Core.List.{[]};
+ghost use Prim.Native.Nat.{_+_, _≤_, _<_};
 ghost use lib.Dec.{ltb};
+ghost use lib.ListN.{length, getD};
 ghost use Rattle.answers.specs.Answers.{saidPlain};
 ghost use Rattle.graph.specs.Given.{given};
 ghost use Rattle.graph.specs.Left.{left};
 ghost use Rattle.graph.specs.Refusals.{firstRefusal, endsTests};
 ghost use Rattle.degree.specs.Degree.{endsOutcome, degreeOutcome, inDegreeOutcome, outDegreeOutcome};
-ghost use Rattle.degree.specs.Tally.{tally, pairTally, TallyPre};
+ghost use Rattle.degree.specs.Tally.{plusOne, tally, pairTally, pairsFrom, TallyPre};
 
 // Both ends of every edge: a self-loop adds two.
 pub fn degree(
@@ -112,13 +114,59 @@ fn add_pairs(from: &[u32], to: &[u32], many: usize, scores: &mut [f64])
     ensures { λ _. ⌜ now (scores .exit) ≡ pairTally (now (from .entry)) (now (to .entry)) many (now (scores .entry)) ⌝ }
 {
     let mut i = 0;
+    while 4 <= many - i {
+        add_four(from, to, i, scores);
+        i += 4;
+    }
+    add_rest(from, to, i, many, scores);
+}
+
+// Four edges; their ends are read before the first addition, so that they wait for none.
+fn add_four(from: &[u32], to: &[u32], i: usize, scores: &mut [f64])
+    requires { ⌜ TallyPre (now from) (i + 4) (now scores) × TallyPre (now to) (i + 4) (now scores) ⌝ }
+    ensures { λ _. ⌜ now (scores .exit) ≡ pairsFrom (now (from .entry)) (now (to .entry)) i (i + 4) (now (scores .entry)) ⌝ }
+{
+    let first_from = end_at(from, i);
+    let second_from = end_at(from, i + 1);
+    let third_from = end_at(from, i + 2);
+    let fourth_from = end_at(from, i + 3);
+    let first_to = end_at(to, i);
+    let second_to = end_at(to, i + 1);
+    let third_to = end_at(to, i + 2);
+    let fourth_to = end_at(to, i + 3);
+    add_edge(first_from, first_to, scores);
+    add_edge(second_from, second_to, scores);
+    add_edge(third_from, third_to, scores);
+    add_edge(fourth_from, fourth_to, scores);
+}
+
+// The edges from first on, one a turn.
+fn add_rest(from: &[u32], to: &[u32], first: usize, many: usize, scores: &mut [f64])
+    requires { ⌜ (first ≤ many) × TallyPre (now from) many (now scores) × TallyPre (now to) many (now scores) ⌝ }
+    ensures { λ _. ⌜ now (scores .exit) ≡ pairsFrom (now (from .entry)) (now (to .entry)) first many (now (scores .entry)) ⌝ }
+{
+    let mut i = first;
     while i < many {
-        let f = from[i] as usize;
-        let t = to[i] as usize;
-        scores[f] = scores[f] + 1.0;
-        scores[t] = scores[t] + 1.0;
+        add_edge(end_at(from, i), end_at(to, i), scores);
         i += 1;
     }
+}
+
+// The node at an end of edge i.
+fn end_at(ends: &[u32], i: usize) -> usize
+    requires { ⌜ i < length (now ends) ⌝ }
+    ensures { λ r. ⌜ r ≡ getD (now (ends .entry)) i 0 ⌝ }
+{
+    ends[i] as usize
+}
+
+// Adds one to the scores of the ends of an edge from f to t.
+fn add_edge(f: usize, t: usize, scores: &mut [f64])
+    requires { ⌜ (f < length (now scores)) × (t < length (now scores)) ⌝ }
+    ensures { λ _. ⌜ now (scores .exit) ≡ plusOne (plusOne (now (scores .entry)) f) t ⌝ }
+{
+    scores[f] = scores[f] + 1.0;
+    scores[t] = scores[t] + 1.0;
 }
 
 // Adds one to the score of each of the first `many` ends.
