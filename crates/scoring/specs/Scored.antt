@@ -5,7 +5,9 @@ use Prim.Native.Nat.{ℕ}
 use lib.ListN.{replicate}
 use lib.Ieee.{Float, binary64, ofBits}
 use Rattle.regions.specs.Region.{zeroF}
-use Rattle.answers.specs.Settings.{jobNodeLimit}
+use Rattle.answers.specs.Settings.{jobNodeLimit, jobEdgeLimit}
+use Rattle.graph.specs.declared.Fronts.{Fronts}
+use Rattle.graph.specs.Fronts.{usualFronts}
 use Rattle.lines.specs.declared.Measure.{Measure}
 use Rattle.lines.specs.declared.Measure.the-variants.{Betweenness, Pagerank, Personalized, Eigenvector, Katz, Reaching, Voterank, Laplacian, Degree}
 use Rattle.lines.specs.declared.Top.{Top}
@@ -25,22 +27,14 @@ scoredText Voterank top l = voterankText top l
 scoredText Laplacian top l = laplacianText top l
 scoredText Degree top l = degreeText top l
 
--- the numbers of 32 bits in the workspace of a job: 8n+8m+8 for the most nodes and edges it may have
-abbrev pub narrowRoom : ℕ
-narrowRoom = 12296
+-- the used fronts of the largest job: of the most nodes and edges that it may have
+abbrev pub jobFronts : Fronts
+jobFronts = usualFronts jobNodeLimit jobEdgeLimit
 
--- the numbers of 64 bits in it: 2n
-abbrev pub wideRoom : ℕ
-wideRoom = 1024
-
--- the floats in it: 6n+4m
-abbrev pub floatRoom : ℕ
-floatRoom = 7168
-
--- slots for the results and a workspace, all of them zero, beside a graph
+-- beside a graph: slots for the results of the largest job and a workspace of its fronts, all of them zero
 unfoldable pub onZeros : List ℕ → List ℕ → List Float → Lent
 onZeros from to weight =
-    lent from to weight (replicate jobNodeLimit zeroF) (replicate jobNodeLimit 0) (replicate narrowRoom 0) (replicate wideRoom 0) (replicate floatRoom zeroF)
+    lent from to weight (replicate jobNodeLimit zeroF) (replicate jobNodeLimit 0) (replicate (jobFronts .narrow) 0) (replicate (jobFronts .wide) 0) (replicate (jobFronts .floats) zeroF)
 
 -- the double of each pattern
 abbrev pub doubles : List ℕ → List Float
