@@ -1,3 +1,4 @@
 pub mod Texts
 pub mod Suffices
 pub mod Unique
+pub mod Workspace

@@ -42,7 +42,7 @@ module _ (g : Graph) (settings : Settings) (flag : Bool) (beta : List Float) whe
   katz-says = says (katzStep g (settings .damping) (settings .tolerance) (betaOf flag beta (g .nodes))) (listOf (λ _. zeroF) (g .nodes)) (eqb (g .nodes) 0) (settings .limit)
 
   -- a vector that a round made has an entry for each node
-  made-long : (x : List Float) → length (katzNext g (settings .damping) (betaOf flag beta (g .nodes)) x) ≡ g .nodes
+  pub made-long : (x : List Float) → length (katzNext g (settings .damping) (betaOf flag beta (g .nodes)) x) ≡ g .nodes
   unfolding katzNext
   made-long x =
       edges-keep (g .directed) (λ e. mul binary64 (settings .damping) (e .weight)) (λ e. e .from) (λ e. e .to) x (betaOf flag beta (g .nodes)) (g .edges)

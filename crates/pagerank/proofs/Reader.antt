@@ -51,7 +51,8 @@ module _ (l : Links) (settings : Settings) (flag : Bool) (start : List Float) wh
       by true = distributes-long l (settings .damping) x i y
       by false = refl
 
-  next-long : (x : List Float) → length (pagerankNext l (settings .damping) x) ≡ l .nodes
+  -- a vector that a round made has an entry for each node
+  pub next-long : (x : List Float) → length (pagerankNext l (settings .damping) x) ≡ l .nodes
   unfolding pagerankNext
   next-long x =
       after-long (pagerankNode l (settings .damping) x) (node-long x) (l .nodes) (listOf (λ _. pagerankBase (l .nodes) (settings .damping) (danglingSum (l .nodes) (l .outs) x)) (l .nodes))

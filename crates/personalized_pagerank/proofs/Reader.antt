@@ -56,7 +56,8 @@ module _ (l : Links) (settings : Settings) (flag : Bool) (vector : List Float) w
       by true = distributes-long l (settings .damping) x i y
       by false = dangling-long x i y
 
-  personal-next-long : (x : List Float) → length (personalNext l (settings .damping) personal x) ≡ l .nodes
+  -- a vector that a round made has an entry for each node
+  pub personal-next-long : (x : List Float) → length (personalNext l (settings .damping) personal x) ≡ l .nodes
   unfolding personalNext
   personal-next-long x =
       after-long (personalNode l (settings .damping) personal x) (personal-node-long x) (l .nodes) (listOf (personalBase (settings .damping) personal) (l .nodes))

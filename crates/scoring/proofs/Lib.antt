@@ -1,2 +1,4 @@
 pub mod Suffices
 pub mod Fronts
+pub mod Lengths
+pub mod Workspace

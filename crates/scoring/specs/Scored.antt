@@ -31,7 +31,7 @@ scoredText Degree top l = degreeText top l
 abbrev pub jobFronts : Fronts
 jobFronts = usualFronts jobNodeLimit jobEdgeLimit
 
--- beside a graph: slots for the results of the largest job and a workspace of its fronts, all of them zero
+-- beside a graph: slots for the results of the largest job and a workspace of its fronts, all of them zero; all others with room give the same text (`any-workspace`)
 unfoldable pub onZeros : List ℕ → List ℕ → List Float → Lent
 onZeros from to weight =
     lent from to weight (replicate jobNodeLimit zeroF) (replicate jobNodeLimit 0) (replicate (jobFronts .narrow) 0) (replicate (jobFronts .wide) 0) (replicate (jobFronts .floats) zeroF)
