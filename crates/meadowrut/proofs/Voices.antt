@@ -1,11 +1,10 @@
--- What a call says, put another way, goes with what it leaves; and no second outcome meets such a contract. Assumes nothing.
-use mathlib.Core.Path.{_≡_, sym, ap, _∙_}
+-- What a call says, put another way, goes with what it leaves. Assumes nothing.
+use mathlib.Core.Path.{_≡_, ap, _∙_}
 use mathlib.Core.List.{List, []}
 use Prim.Native.Nat.{ℕ}
 use lib.Ieee.{Float}
 use Rattle.answers.specs.Answers.{Said}
 use Rattle.graph.specs.Left.{Left, left}
-use Rattle.graph.proofs.Left.{no-second}
 use Rattle.ran.specs.Ran.{RunLeft, runLeft}
 use Rattle.boundary.specs.declared.Text.{Text}
 use Rattle.boundary.specs.Boundary.{voiced, written, runVoiced}
@@ -17,12 +16,3 @@ voiced-by {A} {B} {R} f {o} {a} {b} {r} {w32} {w64} {wf} e p = ap (λ (x : B). l
 -- the same of `run`, which is lent nothing but its output
 pub run-voiced-by : {o : RunLeft} {said : Said ℕ} {text : Text} {output : List ℕ} → text ≡ written said → runLeft said output ≡ o → left text output [] [] [] ≡ runVoiced o
 run-voiced-by {o} {said} {text} {output} e p = ap (λ (x : Text). left x output [] [] []) e ∙ ap runVoiced p
-
--- of every export: what it leaves equals one value
-pub export-unique : {A R : Type 0} {o : Left A R} {a a′ : A} {r r′ : R} {w32 w32′ w64 w64′ : List ℕ} {wf wf′ : List Float}
-    → left a r w32 w64 wf ≡ o → left a′ r′ w32′ w64′ wf′ ≡ o → (a ≡ a′) × (r ≡ r′) × (w32 ≡ w32′) × (w64 ≡ w64′) × (wf ≡ wf′)
-export-unique p q = no-second p q
-
--- of an export whose result equals one value
-pub result-unique : {A : Type 0} {v r r′ : A} → r ≡ v → r′ ≡ v → r ≡ r′
-result-unique p q = p ∙ sym q
