@@ -1,10 +1,10 @@
 -- The shares of a node's predecessor entries, taken one after the other. Assumes nothing.
-use mathlib.Core.Path.{_≡_, refl, sym, ap, _∙_}
-use mathlib.Core.List.{List, [], _∷_, foldl}
+use mathlib.Core.Path.{_≡_, sym, ap, _∙_}
+use mathlib.Core.List.{List, foldl}
 use Prim.Native.Nat.{ℕ, _+_, _-_, _≤_, _<_}
 use native.Mathlib.Omega.{arith}
 use borrow.Author.Tests.{eq-eqb, ne-eqb}
-use lib.ListN.{length, getD, length-set}
+use lib.ListN.{length, getD}
 use lib.Ieee.{Float, nan, binary64, add}
 use Rattle.regions.specs.Doubles.{one}
 use Rattle.regions.specs.Region.{part}
@@ -49,9 +49,3 @@ module _ (n : ℕ) (counts : List ℕ) (first last base : ℕ) (w32 : List ℕ) 
   pub left-other : (w ≡ s → ⊥) → grow f w (getD floats (n + w) nan) ≡ leftBy n counts (heldPredecessors first last base w32) s w floats
   unfolding leftBy
   left-other q = ap (λ (x : List Float). grow x w (getD floats (n + w) nan)) passed-all ∙ simp (ne-eqb w s q)
-
--- the floats are as many as before
-pub passed-long : (n : ℕ) (counts : List ℕ) (ways grown : Float) (floats : List Float) (vs : List ℕ) → length (passedBack n counts ways grown floats vs) ≡ length floats
-unfolding passedBack
-passed-long n counts ways grown floats [] = refl
-passed-long n counts ways grown floats (v ∷ vs) = passed-long n counts ways grown (step n counts ways grown floats v) vs ∙ length-set floats (n + v) _

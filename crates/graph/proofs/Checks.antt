@@ -20,7 +20,7 @@ use Rattle.graph.specs.declared.Found.the-variants as bad
 use Rattle.graph.specs.declared.Fronts.{Fronts}
 use Rattle.answers.specs.Settings.{nodeLimit, edgeLimit}
 use Rattle.graph.specs.Edges.{Edge, edge, edgesOf}
-use Rattle.graph.specs.Checks.{sizeWrong, firstFault, someFault, nodeWrong, firstOdd, someFound, numberWrong, workWrong}
+use Rattle.graph.specs.Checks.{sizeWrong, firstFault, someFault, nodeWrong, firstOdd, workWrong}
 use Rattle.graph.specs.Pres.{Sized, AtMost, Limits, Inside, Roomy}
 use Rattle.graph.proofs.Edges.{edges-long, edges-at, edges-from, noEdge}
 
@@ -156,23 +156,6 @@ module _ (xs : List Float) (o : Found) (i : ℕ) where
   pub none-odd : i ≡ length xs → Odd i ≡ o → bad.Nothing ≡ o
   unfolding firstOdd
   none-odd q e = sym (rw (q, drop-length xs)) ∙ e
-
--- ---- NUMBER did not refuse: every number of the slice is finite
-odd-none : (i : ℕ) (xs : List Float) → someFound (firstOdd i xs) ≡ false → (k : ℕ) → k < length xs → finite (getD xs k nan) ≡ true
-unfolding firstOdd
-odd-none i [] h k l = absurd (not-suc-le-zero l)
-odd-none i (x ∷ xs) h k l = go (finite x) refl h (odd-none (suc i) xs) k l
-  where
-    go : (b : Bool) → finite x ≡ b → someFound (cond b (firstOdd (suc i) xs) (bad.At i)) ≡ false
-        → (someFound (firstOdd (suc i) xs) ≡ false → (j : ℕ) → j < length xs → finite (getD xs j nan) ≡ true)
-        → (k : ℕ) → k < length (x ∷ xs) → finite (getD (x ∷ xs) k nan) ≡ true
-    go true e g r zero l = e
-    go true e g r (suc j) l = r g j (le-of-suc-le-suc l)
-    go false e g r j l = absurd (true≢false g)
-
-pub all-finite : (xs : List Float) → numberWrong xs ≡ false → (k : ℕ) → k < length xs → finite (getD xs k nan) ≡ true
-unfolding numberWrong
-all-finite xs e k l = odd-none 0 xs e k l
 
 -- ---- the tests of `is_finite`: below +infinity and above -infinity
 pub finite-below : (x : Float) → lt x (inf false) ≡ true → lt (inf true) x ≡ finite x

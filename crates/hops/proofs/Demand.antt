@@ -3,16 +3,15 @@ use mathlib.Core.Path.{_≡_, refl, sym, _∙_, subst}
 use mathlib.Core.Logic.{_≢_, _⊎_, inl, inr, _↔_}
 use mathlib.Core.Bool.{_&&_}
 use mathlib.Core.List.{List, [], _∷_, List·Memᴰ, List·Memᴰ·head}
-use Prim.Native.Nat.{ℕ, suc, _-_, _*_, _≤_, _<_}
-use native.Mathlib.Nat.{eq-zero-or-pos}
+use Prim.Native.Nat.{ℕ, _-_, _*_, _≤_, _<_}
 use native.Mathlib.Omega.{arith}
 use lib.Dec.{eqb}
 use lib.ListN.{length}
-use Rattle.graph.specs.Edges.{Graph, entries}
+use Rattle.graph.specs.Edges.{Graph}
 use Rattle.hops.specs.Sum.{sumOver, below, onlyIf}
 use Rattle.hops.specs.Hops.{Valid, unreached, Hops, walks, dist, count, turned, routes, Distinct}
 use Rattle.hops.proofs.Routes.{routes-length, routes-hops, hops-routes, routes-distinct}
-use Rattle.hops.proofs.Dist.{Fewest, Never, dist-cases, dist-fewest, fewest-dist, count-reached, count-unreached, level, sum-on-way, dist-turned, count-turned}
+use Rattle.hops.proofs.Dist.{Fewest, Never, dist-cases, dist-fewest, count-reached, count-unreached, sum-on-way, dist-turned, count-turned}
 
 -- a hop sequence there is shows in the number, and a number that is not 0 shows a hop sequence
 hops-walks : (g : Graph) (a b : ℕ) (p : List ℕ) → Hops g a p b → 0 < walks g (length p) a b
@@ -69,20 +68,3 @@ module _ (g : Graph) (ok : Valid g) (a b : ℕ) (ha : a < g .nodes) where
   -- the edges turned round
   pub turned-round : b < g .nodes → (dist (turned g) b a ≡ dist g a b) × (count (turned g) b a ≡ count g a b)
   turned-round hb = (dist-turned g ok a b ha hb, count-turned g ok a b ha hb)
-
--- the levels of a search, in terms of `dist`
-pub level-dist : (g : Graph) → Valid g → (s v k : ℕ) → s < g .nodes → suc k < unreached
-    → (dist g s v ≡ suc k) ↔ (((j : ℕ) → j ≤ k → dist g s v ≢ j) × ((u : ℕ) × (u < g .nodes) × (dist g s u ≡ k) × List·Memᴰ v (entries g u)))
-level-dist g ok s v k hs hk = (there, back)
-  where
-    there : dist g s v ≡ suc k → ((j : ℕ) → j ≤ k → dist g s v ≢ j) × ((u : ℕ) × (u < g .nodes) × (dist g s u ≡ k) × List·Memᴰ v (entries g u))
-    there e =
-        let r = level g ok s v k hs .0 (dist-fewest g (ok .inside) s v (suc k) hs e (λ z. omega arith)) .1 in
-        (λ j h z. omega arith, (r .0, r .1, fewest-dist g (ok .inside) s (r .0) k hs (r .2), r .3))
-
-    back : ((j : ℕ) → j ≤ k → dist g s v ≢ j) × ((u : ℕ) × (u < g .nodes) × (dist g s u ≡ k) × List·Memᴰ v (entries g u)) → dist g s v ≡ suc k
-    back h = fewest-dist g (ok .inside) s v (suc k) hs (level g ok s v k hs .1 (λ j l. none j l (eq-zero-or-pos (walks g j s v)), (h .1 .0, h .1 .1, dist-fewest g (ok .inside) s (h .1 .0) k hs (h .1 .2) (λ z. omega arith), h .1 .3)))
-      where
-        none : (j : ℕ) → j ≤ k → (walks g j s v ≡ 0) ⊎ (0 < walks g j s v) → walks g j s v ≡ 0
-        none j l (inl z) = z
-        none j l (inr z) = let p = walks-hops g j s v z in absurd (h .0 (dist g s v) (omega (arith, no-fewer g ok s v hs (p .0) (p .1) .1, p .2)) refl)

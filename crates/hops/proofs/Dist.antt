@@ -13,7 +13,7 @@ use Rattle.graph.specs.Edges.{Graph, entries}
 use Rattle.hops.specs.Sum.{sumOver, below, same, onlyIf, times}
 use Rattle.hops.specs.Hops.{EndsIn, Valid, unreached, walks, seek, dist, count, turned}
 use Rattle.hops.proofs.Sums.{eq-or-ne, eqb-yes, eqb-no, same-yes, sum-cong, below-cong, sum-swap, sum-same, none-below, below-pos, below-some, below-le, below-ge, mem-times, times-mem}
-use Rattle.hops.proofs.Walks.{walks-split, walks-via, walks-turn, turned-inside}
+use Rattle.hops.proofs.Walks.{walks-split, walks-via, walks-turn}
 
 -- ---- the first place at which f is not 0
 
@@ -244,10 +244,6 @@ module _ (g : Graph) (ok : Valid g) where
 
   -- ---- the edges turned round
 
-  pub turned-valid : Valid (turned g)
-  unfolding turned
-  turned-valid = record { inside = turned-inside g (ok .inside); few = ok .few }
-
   pub dist-turned : (a b : ℕ) → a < g .nodes → b < g .nodes → dist (turned g) b a ≡ dist g a b
   unfolding dist turned
   dist-turned a b ha hb = ap (λ (f : ℕ → ℕ). seek f (g .nodes) 0) (fun-ext (λ k. walks-turn g (ok .inside) k a b ha hb))
@@ -268,29 +264,6 @@ module _ (g : Graph) (ok : Valid g) where
   pub walk-entry : (u v : ℕ) → 0 < walks g 1 u v → List·Memᴰ v (entries g u)
   unfolding walks
   walk-entry u v h = times-mem (entries g u) v h
-
-  -- what the step from level k to level k + 1 of a breadth-first search needs
-  pub level : (s v k : ℕ) → s < g .nodes
-      → Fewest g s v (suc k) ↔ (((j : ℕ) → j ≤ k → walks g j s v ≡ 0) × ((u : ℕ) × (u < g .nodes) × Fewest g s u k × List·Memᴰ v (entries g u)))
-  level s v k hs = (there, back)
-    where
-      one-last : suc k ≡ k + 1
-      one-last = omega arith
-
-      there : Fewest g s v (suc k) → ((j : ℕ) → j ≤ k → walks g j s v ≡ 0) × ((u : ℕ) × (u < g .nodes) × Fewest g s u k × List·Memᴰ v (entries g u))
-      there p =
-          let q : Fewest g s v (k + 1) = subst (λ (t : ℕ). Fewest g s v t) one-last p in
-          let r = on-way g (ok .inside) k 1 s v hs (q .here) in
-          let t = between g (ok .inside) k 1 s (r .0) v hs (r .1) q (r .2) (r .3) in
-          (λ j h. p .before j (omega arith), (r .0, r .1, t .0, walk-entry (r .0) v (r .3)))
-
-      back : ((j : ℕ) → j ≤ k → walks g j s v ≡ 0) × ((u : ℕ) × (u < g .nodes) × Fewest g s u k × List·Memᴰ v (entries g u)) → Fewest g s v (suc k)
-      back h =
-          let u = h .1 .0 in
-          record {
-            here = subst (λ (t : ℕ). 0 < walks g t s v) (sym one-last) (walks-via g (ok .inside) k 1 s u v hs (h .1 .1) (h .1 .2 .here) (entry-walk u v (h .1 .3)));
-            before = λ j l. h .0 j (omega arith);
-          }
 
   -- the number of fewest hop sequences to v: over the nodes u at k hops, those to u, once for each entry of u that is v
   pub level-count : (s v k : ℕ) → s < g .nodes → Fewest g s v (suc k)

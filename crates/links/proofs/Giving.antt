@@ -12,15 +12,11 @@ use Rattle.lists.specs.Lists.{Share, share}
 use Rattle.lists.proofs.Reading.{fold-none, fold-more}
 use Rattle.rounds.specs.Vectors.{entry, nextIn}
 use Rattle.rounds.proofs.Vectors.{next-at, next-set, vectors-then, vectors-are}
-use Rattle.links.specs.Links.{shareIn, sharesIn, weightsAt, gives}
+use Rattle.links.specs.Links.{shareIn, weightsAt, gives}
 use Rattle.links.specs.Steps.{LinksPre, GivePre, sharesFrom, Given}
 use Rattle.links.proofs.Turns.{vectors-none}
 
 -- ---- the stretches of a list
--- the list of v is the stretch from its offset to the next one
-pub list-of : (n : ℕ) (w : List ℕ) (wf : List Float) (v : ℕ) → sharesFrom n w wf (getD w v 0) (getD w (v + 1) 0) ≡ sharesIn n w wf v
-list-of n w wf v = refl
-
 -- where a walk over it reads
 pub give-pre : {n : ℕ} {w : List ℕ} {wf : List Float} → LinksPre n w wf → (v : ℕ) → v < n → GivePre n w (getD w v 0) (getD w (v + 1) 0) wf
 give-pre pre v l = record { order = pre .rises v l; entries = pre .entries v l; nodes = λ j a b. pre .nodes v j l a b; weights = pre .weights v l }

@@ -6,7 +6,7 @@ use native.Mathlib.Omega.{arith}
 use lib.ListN.{length, getD}
 use lib.Ieee.{Float, nan}
 use Rattle.regions.specs.Region.{listOf, zeroF}
-use Rattle.regions.proofs.Fronts.{list-none, list-more}
+use Rattle.regions.proofs.Fronts.{list-more}
 use Rattle.graph.specs.Layout.{entriesAt, besideAt}
 use Rattle.lists.specs.Lists.{Place, placeAt, longAt, listAt, Share, share, shareAt, sharesAt, withShare, weightOf, ListsFit}
 

@@ -90,10 +90,6 @@ unfolding entriesOf
 entries-append g [] ys = refl
 entries-append g (x ∷ xs) ys = ap (λ (t : List ℕ). entries g x ++ t) (entries-append g xs ys) ∙ sym (append-assoc (entries g x) (entriesOf g xs) (entriesOf g ys))
 
-pub entries-none : (g : Graph) (xs : List ℕ) → xs ≡ [] → entriesOf g xs ≡ []
-unfolding entriesOf
-entries-none g xs e = ap (entriesOf g) e
-
 -- with one node more
 pub entries-more : (g : Graph) (q : List ℕ) (k : ℕ) → k < length q → entriesOf g (take (k + 1) q) ≡ entriesOf g (take k q) ++ entries g (getD q k 0)
 unfolding entriesOf

@@ -2,7 +2,7 @@
 use mathlib.Core.Path.{_≡_, refl, sym, ap, ap₂, _∙_}
 use mathlib.Core.Logic.{_≢_, _⊎_, inl, inr}
 use mathlib.Core.Bool.{Bool, true, false, cond}
-use mathlib.Core.List.{List, [], _∷_, _++_, append-assoc, append-nil, List·Memᴰ, List·Memᴰ·head, List·Memᴰ·tail, List·Memᴰ·append-cases, List·Memᴰ·not-nil, List·Memᴰ·eq-of-singleton, Memᴰ·append-left, Memᴰ·append-right}
+use mathlib.Core.List.{List, [], _∷_, _++_, append-assoc, append-nil, List·Memᴰ, List·Memᴰ·head, List·Memᴰ·tail, List·Memᴰ·append-cases, List·Memᴰ·not-nil, List·Memᴰ·eq-of-singleton}
 use Prim.Native.Nat.{ℕ, _+_, _*_, _≤_, _<_}
 use native.Mathlib.Nat.{mul-le-mul-right, one-mul}
 use native.Mathlib.Omega.{arith}
@@ -133,14 +133,6 @@ module _ (g : Graph) (d : ℕ → ℕ) (done : List ℕ) (u : ℕ) where
   pub so-done : (w : ℕ) → soFar g d done u (entries g u) w ≡ entered g d w (done ++ (u ∷ []))
   unfolding entered
   so-done w = sym (entered-append g d w done (u ∷ []) ∙ ap (λ (t : List ℕ). entered g d w done ++ t) (append-nil (enteredBy d w u (entries g u))))
-
-  -- the nodes that have entered are done, or u
-  pub so-mem : (seen : List ℕ) (w y : ℕ) → List·Memᴰ y (soFar g d done u seen w) → List·Memᴰ y (done ++ (u ∷ []))
-  so-mem seen w y m = go (List·Memᴰ·append-cases (entered g d w done) m)
-    where
-      go : List·Memᴰ y (entered g d w done) ⊎ List·Memᴰ y (enteredBy d w u seen) → List·Memᴰ y (done ++ (u ∷ []))
-      go (inl k) = Memᴰ·append-left (u ∷ []) (entered-mem g d w done y k)
-      go (inr k) = Memᴰ·append-right done (List·Memᴰ·head (by-mem d w u seen y k))
 
   -- there are no more than entries lead to w
   pub so-most : (seen : List ℕ) (w : ℕ) → times w seen ≤ times w (entries g u)

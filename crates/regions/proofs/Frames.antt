@@ -1,14 +1,14 @@
 -- Laws of `Frame`, `Frame2`, `Filled` and `Copied`. Assumes nothing.
-use mathlib.Core.Path.{_≡_, refl, sym, ap, _∙_}
+use mathlib.Core.Path.{_≡_, refl, sym, _∙_}
 use mathlib.Core.Logic.{⊎-elim}
 use mathlib.Core.List.{List}
 use Prim.Native.Nat.{ℕ, _+_, _-_, _≤_, _<_}
 use native.Mathlib.Omega.{arith}
 use lib.ListN.{length, getD, set, length-set}
 use lib.Seq.{ext-getD, getD-set-same, getD-set-other}
-use Rattle.regions.specs.Region.{cleared, listOf, part, Front, Frame, Frame2, Filled, Copied, Apart}
+use Rattle.regions.specs.Region.{listOf, part, Front, Frame, Frame2, Filled, Copied, Apart}
 use Rattle.regions.proofs.Cases.{same-or-not, below-or-not}
-use Rattle.regions.proofs.Fronts.{cleared-afterD, cleared-long, cleared-at, cleared-frontD, missD, getD-any, same-any}
+use Rattle.regions.proofs.Fronts.{missD, getD-any, same-any}
 use Rattle.regions.proofs.Parts.{part-at, part-is, part-long}
 
 -- ---- one region
@@ -52,10 +52,6 @@ front-frame {A} {w} {w′} {k} f =
       rest = λ d j h. ⊎-elim (λ p. absurd (h (omega arith) (omega arith))) (λ p. f .rest d j p) (below-or-not j k);
     }
 
--- what was written to the region is gone when a front that holds it is cleared
-pub cleared-frame : {A : Type 0} (z : A) {w w′ : List A} {b n : ℕ} (k : ℕ) → b + n ≤ k → Frame w b n w′ → cleared z k w′ ≡ cleared z k w
-cleared-frame z k l f = cleared-afterD z (frame-front k l f)
-
 -- ---- two regions
 pub frame2-by : {A : Type 0} {w w′ : List A} {a n b m : ℕ} (d : A) → length w′ ≡ length w → ((j : ℕ) → (a ≤ j → j < a + n → ⊥) → (b ≤ j → j < b + m → ⊥) → getD w′ j d ≡ getD w j d) → Frame2 w a n b m w′
 frame2-by {A} {w} {w′} d l h = record { long = l; rest = λ e j p q. same-any w w′ l d e j (h j p q) }
@@ -65,12 +61,6 @@ frame2-none w a n b m = record { long = refl; rest = λ d j p q. refl }
 
 pub frame2-then : {A : Type 0} {w w′ w″ : List A} {a n b m : ℕ} → Frame2 w a n b m w′ → Frame2 w′ a n b m w″ → Frame2 w a n b m w″
 frame2-then f g = record { long = g .long ∙ f .long; rest = λ d j p q. g .rest d j p q ∙ f .rest d j p q }
-
-pub frame2-left : {A : Type 0} {w w′ : List A} {a n : ℕ} (b m : ℕ) → Frame w a n w′ → Frame2 w a n b m w′
-frame2-left b m f = record { long = f .long; rest = λ d j p q. f .rest d j p }
-
-pub frame2-right : {A : Type 0} {w w′ : List A} {b m : ℕ} (a n : ℕ) → Frame w b m w′ → Frame2 w a n b m w′
-frame2-right a n f = record { long = f .long; rest = λ d j p q. f .rest d j q }
 
 pub frame2-set-left : {A : Type 0} {w w′ : List A} {a n b m : ℕ} (k : ℕ) (v : A) → Frame2 w a n b m w′ → a ≤ k → k < a + n → Frame2 w a n b m (set w′ k v)
 frame2-set-left {A} {w} {w′} {a} {n} {b} {m} k v f lo hi =
@@ -111,16 +101,6 @@ filled-more {A} {w} {w′} {b} {i} {v} f l =
       at = λ d. store-more (λ _ x. x ≡ v) d w′ b i v p (f .at d) refl;
     }
 
--- the front filled is the front cleared
-pub filled-cleared : {A : Type 0} {w w′ : List A} {k : ℕ} {z : A} → Filled w 0 k z w′ → k ≤ length w → w′ ≡ cleared z k w
-filled-cleared {A} {w} {w′} {k} {z} f l =
-    ext-getD z w′ (cleared z k w) (f .frame .long ∙ sym (cleared-long z k w l))
-    (λ i h.
-    ⊎-elim
-    (λ p. let e : i ≡ 0 + i = omega arith in ap (λ (x : ℕ). getD w′ x z) e ∙ f .at z i p ∙ sym (cleared-at z z k w i p))
-    (λ p. f .frame .rest z i (λ x y. omega arith) ∙ sym (cleared-frontD z k w l .rest z i p))
-    (below-or-not i k))
-
 pub filled-part : {A : Type 0} {w w′ : List A} {b n : ℕ} {v : A} → Filled w b n v w′ → b + n ≤ length w → part w′ b n ≡ listOf (λ _. v) n
 filled-part {A} {w} {w′} {b} {n} {v} f l = part-is v w′ b n (λ _. v) (omega (arith, f .frame .long)) (f .at v)
 
@@ -141,10 +121,3 @@ pub copied-source : {A : Type 0} {w w′ : List A} {from b i len : ℕ} (d : A) 
 copied-source {A} {w} {w′} {from} {b} {i} {len} d a l f =
     f .frame .rest d (from + i)
     (λ p q. let e : from + i ≡ b + (from + i - b) = omega arith in a .apart i (from + i - b) l (omega arith) e)
-
-pub copied-part : {A : Type 0} {s w w′ : List A} {from b n : ℕ} (d : A) → Copied s from w b n w′ → from + n ≤ length s → b + n ≤ length w → part w′ b n ≡ part s from n
-copied-part {A} {s} {w} {w′} {from} {b} {n} d f m l =
-    let p : length (part w′ b n) ≡ n = part-long w′ b n (omega (arith, f .frame .long)) in
-    let q : length (part s from n) ≡ n = part-long s from n m in
-    ext-getD d (part w′ b n) (part s from n) (p ∙ sym q)
-    (λ i h. part-at w′ b n d i (omega arith) ∙ f .at d i (omega arith) ∙ sym (part-at s from n d i (omega arith)))

@@ -1,11 +1,10 @@
--- A root or an absolute value that passes a stop rule's test is that of a finite double. Assumes nothing.
+-- A root that passes a stop rule's test is that of a finite double. Assumes nothing.
 use mathlib.Core.Path.{_≡_}
 use mathlib.Core.Bool.{true, false, false≢true}
 use lib.Dec.{T}
 use lib.Ieee.{Float, nan, inf, fin, lt}
 use lib.Ieee.Scale.{finite}
 use Rattle.roots.specs.Root.{sqrtOf}
-use Rattle.roots.specs.Absolute.{absOf}
 
 -- neither NaN nor +infinity is less than anything
 nan-less : (t : Float) → lt nan t ≡ true → ⊥
@@ -24,8 +23,3 @@ root-less nan t h = absurd (nan-less t h)
 root-less (inf true) t h = absurd (nan-less t h)
 root-less (inf false) t h = absurd (inf-less t h)
 root-less (fin s m e) t h = tt
-
-pub abs-less : (x t : Float) → lt (absOf x) t ≡ true → T (finite x)
-abs-less nan t h = absurd (nan-less t h)
-abs-less (inf s) t h = absurd (inf-less t h)
-abs-less (fin s m e) t h = tt

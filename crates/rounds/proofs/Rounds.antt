@@ -17,12 +17,6 @@ pub after-more : {S : Type 0} (turn : ℕ → S → S) (k : ℕ) (s t : S) → t
 unfolding after
 after-more turn k s t e = ap (turn k) e ∙ ap (λ (j : ℕ). after turn j s) (sym (add-one k))
 
--- two loops whose turns agree
-pub after-same : {S : Type 0} (f g : ℕ → S → S) (n : ℕ) (s : S) → ((k : ℕ) (t : S) → k < n → f k t ≡ g k t) → after f n s ≡ after g n s
-unfolding after
-after-same f g zero s h = refl
-after-same f g (suc n) s h = ap (f n) (after-same f g n s (λ k t l. h k t (omega arith))) ∙ h n (after g n s) (omega arith)
-
 -- ---- rounds until a stop rule, of which k are done: o is where they end
 module _ {S : Type 0} (step : S → Round S) (o : Out S) (limit : ℕ) where
   -- where the rounds from the kth state on end
