@@ -100,7 +100,7 @@ fn empty_wrong(nodes: usize, empties: bool) -> bool
 }
 
 // Too many nodes or edges, or edge slices of unequal length.
-pub fn size_wrong(nodes: usize, from: &[u32], to: &[u32], weight: &[f64]) -> bool
+fn size_wrong(nodes: usize, from: &[u32], to: &[u32], weight: &[f64]) -> bool
     ensures { λ r. ⌜ r ≡ sizeWrong nodes (now (from .entry)) (now (to .entry)) (now (weight .entry)) ⌝ }
 {
     if Settings::NODES < nodes {
@@ -116,7 +116,7 @@ pub fn size_wrong(nodes: usize, from: &[u32], to: &[u32], weight: &[f64]) -> boo
 }
 
 // The first edge with an end that is no node.
-pub fn first_fault(nodes: usize, from: &[u32], to: &[u32], weight: &[f64]) -> Fault
+fn first_fault(nodes: usize, from: &[u32], to: &[u32], weight: &[f64]) -> Fault
     requires { ⌜ Sized (now from) (now to) (now weight) ⌝ }
     ensures { λ r. ⌜ r ≡ firstFault nodes (edgesOf (now (from .entry)) (now (to .entry)) (now (weight .entry))) ⌝ }
 {
@@ -144,7 +144,7 @@ fn any_fault(f: Fault) -> bool
 }
 
 // An end that is no node: the highest ends tell whether there is one, without a branch for each edge.
-pub fn node_wrong(nodes: usize, from: &[u32], to: &[u32], weight: &[f64]) -> bool
+fn node_wrong(nodes: usize, from: &[u32], to: &[u32], weight: &[f64]) -> bool
     requires { ⌜ Sized (now from) (now to) (now weight) ⌝ }
     ensures { λ r. ⌜ r ≡ nodeWrong nodes (edgesOf (now (from .entry)) (now (to .entry)) (now (weight .entry))) ⌝ }
 {
@@ -187,7 +187,7 @@ pub fn is_finite(x: f64) -> bool
 }
 
 // The first number that is an infinity or a NaN.
-pub fn first_odd(numbers: &[f64]) -> Found
+fn first_odd(numbers: &[f64]) -> Found
     ensures { λ r. ⌜ r ≡ firstOdd 0 (now (numbers .entry)) ⌝ }
 {
     let mut i = 0;

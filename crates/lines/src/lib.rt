@@ -196,7 +196,7 @@ fn comma(s: &[u8], a: usize, e: usize) -> usize
 }
 
 // The value of the line at `at` that begins with the key.
-pub fn value_of(key: &[u8], s: &[u8], at: usize) -> Span
+fn value_of(key: &[u8], s: &[u8], at: usize) -> Span
     ensures { λ r. ⌜ r ≡ spanOf (now (key .entry)) (now (s .entry)) at ⌝ }
 {
     if s.len() <= at {
@@ -226,7 +226,7 @@ pub fn decimal_line(key: &[u8], s: &[u8], at: usize) -> Line
 }
 
 // The line KEY BITS at `at`.
-pub fn bits_line(key: &[u8], s: &[u8], at: usize) -> Line
+fn bits_line(key: &[u8], s: &[u8], at: usize) -> Line
     ensures { λ r. ⌜ r ≡ bitsLine (now (key .entry)) (now (s .entry)) at ⌝ }
 {
     let Span::Of(a, e) = value_of(key, s, at) else {
