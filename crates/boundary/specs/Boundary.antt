@@ -1,11 +1,12 @@
 -- What passes between C and the calls: flags as numbers, what a call said as a struct of numbers. Definitions only.
-use mathlib.Core.Bool.{Bool, true, false, not}
+use mathlib.Core.Bool.{Bool, not}
 use mathlib.Core.List.{List, []}
 use Prim.Native.Nat.{ℕ}
 use lib.Dec.{eqb}
 use Rattle.regions.specs.Region.{zeroF}
 use Rattle.answers.specs.declared.Rounds.{Rounds}
 use Rattle.answers.specs.Answers.{Said, done, refusal}
+use Rattle.graph.specs.Edges.{oneIf}
 use Rattle.graph.specs.Left.{Left, left}
 use Rattle.ran.specs.Ran.{RunLeft}
 use Rattle.boundary.specs.declared.Settings.{Settings}
@@ -17,11 +18,6 @@ use Rattle.answers.specs.declared.Settings.{Settings as Asked}
 -- a flag is raised unless it is 0
 abbrev pub raised : ℕ → Bool
 raised k = not (eqb k 0)
-
--- 1 for yes, 0 for no
-abbrev pub asNumber : Bool → ℕ
-asNumber true = 1
-asNumber false = 0
 
 -- the settings of C as the calls take them
 abbrev pub asked : Settings → Asked
@@ -37,7 +33,7 @@ noSettings = record { damping = zeroF; tolerance = zeroF; limit = 0 }
 
 -- what an iterative call said, as its struct
 abbrev pub reported : Said Rounds → Report
-reported (done r) = record { answer = 0; settled = asNumber (r .settled); rounds = r .rounds; settings = returned (r .settings) }
+reported (done r) = record { answer = 0; settled = oneIf (r .settled); rounds = r .rounds; settings = returned (r .settings) }
 reported (refusal k) = record { answer = k; settled = 0; rounds = 0; settings = noSettings }
 
 -- what an election said, as its struct

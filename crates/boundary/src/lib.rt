@@ -1,8 +1,9 @@
 // What passes between C and the calls: the structs of include/meadowrut.h, and what a call said in their numbers.
 ghost use mathlib.Core.Path.{_≡_};
 ghost use Rattle.answers.specs.Answers.{done, refusedWith, saidEnded, saidElected};
+ghost use Rattle.graph.specs.Edges.{oneIf};
 ghost use Rattle.ran.specs.Ran.{saidRan};
-ghost use Rattle.boundary.specs.Boundary.{asked, reported, counted, written, asNumber};
+ghost use Rattle.boundary.specs.Boundary.{asked, reported, counted, written};
 use answers::Answer;
 use answers::Elected;
 use answers::Ended;
@@ -137,7 +138,7 @@ pub fn text_of(ran: Ran) -> Text
 
 // 1 for yes, 0 for no.
 fn as_number(b: bool) -> u32
-    ensures { λ r. ⌜ r ≡ asNumber b ⌝ }
+    ensures { λ r. ⌜ r ≡ oneIf b ⌝ }
 {
     if b { 1 } else { 0 }
 }

@@ -20,7 +20,7 @@ use Rattle.answers.specs.declared.Rounds.{Rounds}
 use Rattle.graph.specs.declared.Fronts.{Fronts}
 use Rattle.answers.specs.Answers.{Said}
 use Rattle.graph.specs.Checks.{numberWrong}
-use Rattle.graph.specs.Edges.{edgesOf}
+use Rattle.graph.specs.Edges.{edgesOf, graphFrom}
 use Rattle.graph.specs.Fronts.{usualFronts}
 use Rattle.graph.specs.Given.{Given, graphIn}
 use Rattle.graph.specs.Refusals.{firstRefusal}
@@ -32,7 +32,7 @@ use Rattle.rounds.specs.Rounds.{after, Round, round, outcomeFrom, outcome}
 use Rattle.rounds.specs.Tests.{iterativeTests}
 use Rattle.rounds.specs.Ending.{settledOnly, settledBy, WritePre}
 use Rattle.rounds.specs.Vectors.{entry, squared, squaredChange, settles, currentIn, nextIn, Vectors}
-use Rattle.rounds.specs.Steps.{graphOf, SpreadsPre, RoundDone, RoundsDone}
+use Rattle.rounds.specs.Steps.{SpreadsPre, RoundDone, RoundsDone}
 use Rattle.rounds.proofs.Rounds.{after-more}
 use Rattle.rounds.proofs.Vectors.{next-at}
 use Rattle.rounds.proofs.Tests.{iterative-ready, iterative-fits}
@@ -65,7 +65,7 @@ module _ (n : ℕ) (directed : Bool) (from to : List ℕ) (weight : List Float) 
     (s : Vectors n w (currentIn n w) (foldl (eigenEdge directed (currentIn n w)) (nextIn n w) (edgesOf from to weight)) w1)
   where
     abbrev Step : List Float → Round (List Float)
-    Step = eigenStep (graphOf n directed from to weight) tolerance
+    Step = eigenStep (graphFrom n directed from to weight) tolerance
 
     made : Step (currentIn n w) ≡ eigenEnd n tolerance (currentIn n w) (nextIn n w1)
     unfolding eigenStep grown
@@ -109,7 +109,7 @@ module _ (n : ℕ) (directed : Bool) (from to : List ℕ) (weight : List Float) 
     (room : n + n ≤ length w) (es : start ≡ startOf n) (f : Filled w 0 (n + n) start w1)
   where
     abbrev Done : Rounds → List Float → Type 0
-    Done r w′ = RoundsDone n settings (eigenRounds (graphOf n directed from to weight) settings) w r w′
+    Done r w′ = RoundsDone n settings (eigenRounds (graphFrom n directed from to weight) settings) w r w′
 
     both : Vectors n w (listOf (λ _. start) n) (listOf (λ _. start) n) w1
     both = filled-vectors n start room f
@@ -135,11 +135,11 @@ module _ (n : ℕ) (directed : Bool) (from to : List ℕ) (weight : List Float) 
 
     -- r and w2 are what the rounds made of w1; an edge has ends, so there are nodes
     pub run-some : {r : Rounds} {w2 : List Float} → (length from ≡ 0 → ⊥)
-        → RoundsDone n settings (outcomeFrom (eigenStep (graphOf n directed from to weight) (settings .tolerance)) (settings .limit) 0 (currentIn n w1)) w1 r w2
+        → RoundsDone n settings (outcomeFrom (eigenStep (graphFrom n directed from to weight) (settings .tolerance)) (settings .limit) 0 (currentIn n w1)) w1 r w2
         → Done r w2
     unfolding eigenRounds outcome
     run-some {r} {w2} e d =
-        let step = eigenStep (graphOf n directed from to weight) (settings .tolerance) in
+        let step = eigenStep (graphFrom n directed from to weight) (settings .tolerance) in
         let some : 0 < length from = omega arith in
         record {
           front = front-then (both .front) (d .front);

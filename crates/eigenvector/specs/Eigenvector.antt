@@ -4,11 +4,10 @@ use mathlib.Core.Bool.{Bool, true, false, not, _||_, cond}
 use mathlib.Core.List.{List, foldl}
 use Prim.Native.Nat.{ℕ}
 use lib.Dec.{eqb}
-use lib.IntN.{pos}
 use lib.ListN.{length}
-use lib.Ieee.{Float, binary64, ofBits, ofInt, add, div, lt}
+use lib.Ieee.{Float, binary64, ofBits, add, div, lt}
 use lib.Ieee.Scale.{finite}
-use Rattle.regions.specs.Doubles.{one}
+use Rattle.regions.specs.Doubles.{double, one}
 use Rattle.regions.specs.Region.{zeroF, listOf}
 use Rattle.roots.specs.Root.{sqrtOf}
 use Rattle.answers.specs.declared.Settings.{Settings}
@@ -31,7 +30,7 @@ tiny = ofBits binary64 0x3ddb_7cdf_d9d7_bdbb
 
 -- 1/sqrt(n), which every entry starts with
 unfoldable pub startOf : ℕ → Float
-startOf n = div binary64 one (sqrtOf (ofInt binary64 (pos n)))
+startOf n = div binary64 one (sqrtOf (double n))
 
 -- the vector with that value everywhere
 abbrev pub uniform : ℕ → List Float

@@ -12,12 +12,12 @@ ghost use lib.ListN.{length};
 ghost use lib.Ieee.Scale.{finite};
 ghost use Rattle.answers.specs.Answers.{saidEnded};
 ghost use Rattle.graph.specs.Checks.{numberWrong};
-ghost use Rattle.graph.specs.Edges.{edgesOf};
+ghost use Rattle.graph.specs.Edges.{edgesOf, graphFrom};
 ghost use Rattle.graph.specs.Given.{given};
 ghost use Rattle.graph.specs.Left.{left};
 ghost use Rattle.rounds.specs.Rounds.{outcomeFrom};
 ghost use Rattle.rounds.specs.Vectors.{currentIn, nextIn, squaredChange, Vectors};
-ghost use Rattle.rounds.specs.Steps.{graphOf, SpreadsPre, RoundDone, RoundsDone};
+ghost use Rattle.rounds.specs.Steps.{SpreadsPre, RoundDone, RoundsDone};
 ghost use Rattle.eigenvector.specs.Eigenvector.{startOf, eigenEdge, normOf, scaled, eigenStep, eigenRounds, eigenOutcome};
 ghost use Rattle.eigenvector.specs.Steps.{RoundPre};
 
@@ -91,7 +91,7 @@ fn run(
     wf: &mut [f64],
 ) -> Rounds
     requires { ⌜ SpreadsPre nodes (now from) (now to) (now weight) (now wf) ⌝ }
-    ensures { λ r. ⌜ RoundsDone nodes settings (eigenRounds (graphOf nodes directed (now (from .entry)) (now (to .entry)) (now (weight .entry))) settings) (now (wf .entry)) r (now (wf .exit)) ⌝ }
+    ensures { λ r. ⌜ RoundsDone nodes settings (eigenRounds (graphFrom nodes directed (now (from .entry)) (now (to .entry)) (now (weight .entry))) settings) (now (wf .entry)) r (now (wf .exit)) ⌝ }
 {
     let start = start_value(nodes);
     regions::fillf(wf, 0, nodes + nodes, start);
@@ -124,7 +124,7 @@ fn run_on(
     wf: &mut [f64],
 ) -> Rounds
     requires { ⌜ RoundPre nodes (now from) (now to) (now weight) start (now wf) ⌝ }
-    ensures { λ r. ⌜ RoundsDone nodes settings (outcomeFrom (eigenStep (graphOf nodes directed (now (from .entry)) (now (to .entry)) (now (weight .entry))) (settings .tolerance)) (settings .limit) 0 (currentIn nodes (now (wf .entry)))) (now (wf .entry)) r (now (wf .exit)) ⌝ }
+    ensures { λ r. ⌜ RoundsDone nodes settings (outcomeFrom (eigenStep (graphFrom nodes directed (now (from .entry)) (now (to .entry)) (now (weight .entry))) (settings .tolerance)) (settings .limit) 0 (currentIn nodes (now (wf .entry)))) (now (wf .entry)) r (now (wf .exit)) ⌝ }
 {
     let tolerance = settings.tolerance;
     let limit = settings.limit;
@@ -160,7 +160,7 @@ fn round(
     wf: &mut [f64],
 ) -> bool
     requires { ⌜ RoundPre nodes (now from) (now to) (now weight) start (now wf) ⌝ }
-    ensures { λ r. ⌜ RoundDone nodes (eigenStep (graphOf nodes directed (now (from .entry)) (now (to .entry)) (now (weight .entry))) tolerance) (currentIn nodes (now (wf .exit))) (now (wf .entry)) r (now (wf .exit)) ⌝ }
+    ensures { λ r. ⌜ RoundDone nodes (eigenStep (graphFrom nodes directed (now (from .entry)) (now (to .entry)) (now (weight .entry))) tolerance) (currentIn nodes (now (wf .exit))) (now (wf .entry)) r (now (wf .exit)) ⌝ }
 {
     spread_edges(nodes, directed, from, to, weight, wf);
     let norm = norm(nodes, wf);

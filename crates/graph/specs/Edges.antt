@@ -1,6 +1,6 @@
 -- The graph as lent: its edges with their positions, the neighbour entries of a node, its weighted list and out-weight
 -- (document 01, "The graph as lent", "PageRank"). Definitions only.
-use mathlib.Core.Bool.{Bool, true, false, not, _&&_, cond}
+use mathlib.Core.Bool.{Bool, true, false, not, _&&_, _||_, cond}
 use mathlib.Core.List.{List, [], _∷_, _++_, foldl}
 use Prim.Native.Nat.{ℕ, suc}
 use lib.Dec.{eqb}
@@ -11,6 +11,11 @@ use Rattle.regions.specs.Region.{zeroF}
 abbrev pub oneIf : Bool → ℕ
 oneIf true = 1
 oneIf false = 0
+
+-- whether v stands in a list
+unfoldable pub listed : ℕ → List ℕ → Bool
+listed v [] = false
+listed v (x ∷ xs) = eqb x v || listed v xs
 
 -- an edge: its position in the lent slices, its ends and its weight
 pub record Edge : Type 0 where
@@ -39,6 +44,10 @@ pub record Graph : Type 0 where
   pub nodes : ℕ
   pub directed : Bool
   pub edges : List Edge
+
+-- the graph of n nodes whose edges the three lent slices hold
+abbrev pub graphFrom : ℕ → Bool → List ℕ → List ℕ → List Float → Graph
+graphFrom n directed fs ts xs = record { nodes = n; directed = directed; edges = edgesOf fs ts xs }
 
 -- ---- neighbour entries
 

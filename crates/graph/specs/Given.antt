@@ -3,7 +3,7 @@ use mathlib.Core.Bool.{Bool}
 use mathlib.Core.List.{List}
 use Prim.Native.Nat.{ℕ}
 use lib.Ieee.{Float}
-use Rattle.graph.specs.Edges.{Edge, edgesOf, Graph}
+use Rattle.graph.specs.Edges.{Edge, edgesOf, Graph, graphFrom}
 
 -- what a call is given; R is what the result slices hold: of a call with one, its list
 pub record Given (R : Type 0) : Type 0 where
@@ -27,4 +27,4 @@ edgesIn g = edgesOf (g .from) (g .to) (g .weight)
 
 -- the graph that was lent
 abbrev pub graphIn : {R : Type 0} → Given R → Graph
-graphIn g = record { nodes = g .nodes; directed = g .directed; edges = edgesIn g }
+graphIn g = graphFrom (g .nodes) (g .directed) (g .from) (g .to) (g .weight)

@@ -14,7 +14,7 @@ use Rattle.answers.specs.declared.Settings.{Settings}
 use Rattle.answers.specs.declared.Rounds.{Rounds}
 use Rattle.graph.specs.declared.Fronts.{Fronts}
 use Rattle.answers.specs.Answers.{Said}
-use Rattle.graph.specs.Edges.{edgesOf}
+use Rattle.graph.specs.Edges.{edgesOf, graphFrom}
 use Rattle.graph.specs.Fronts.{usualFronts}
 use Rattle.graph.specs.Given.{Given, graphIn}
 use Rattle.graph.specs.Refusals.{firstRefusal}
@@ -28,7 +28,7 @@ use Rattle.rounds.proofs.Tests.{iterative-ready, iterative-fits, length-right}
 use Rattle.rounds.proofs.Ending.{vectors-room, write-pre, settled-ends}
 use Rattle.rounds.specs.Vectors.{squaredChange, settles, currentIn, nextIn, Vectors}
 use Rattle.katz.specs.Katz.{betaOf, katzEdge, katzNext, katzStep, katzRounds, katzOwn, katzTests, katzOutcome}
-use Rattle.rounds.specs.Steps.{graphOf, RoundDone, RoundsDone}
+use Rattle.rounds.specs.Steps.{RoundDone, RoundsDone}
 use Rattle.katz.specs.Steps.{RunPre}
 
 module _ (n : ℕ) (directed : Bool) (from to : List ℕ) (weight : List Float) where
@@ -38,12 +38,12 @@ module _ (n : ℕ) (directed : Bool) (from to : List ℕ) (weight : List Float) 
       → change ≡ squaredChange n (currentIn n w1) (nextIn n w1)
       → Vectors n w1 (nextIn n w1) beta w2
       → root ≡ sqrtOf change
-      → RoundDone n (katzStep (graphOf n directed from to weight) alpha tolerance beta) beta w (lt root tolerance) w2
+      → RoundDone n (katzStep (graphFrom n directed from to weight) alpha tolerance beta) beta w (lt root tolerance) w2
   unfolding katzNext katzStep settles
   round-done alpha tolerance {beta} {w} {w1} {w2} {change} {root} begun s ec a er =
       record { front = front-then (s .front) (a .front); stepped = stepped; begun = a .next }
     where
-      made : katzNext (graphOf n directed from to weight) alpha beta (currentIn n w) ≡ nextIn n w1
+      made : katzNext (graphFrom n directed from to weight) alpha beta (currentIn n w) ≡ nextIn n w1
       made = ap (λ (y : List Float). foldl (katzEdge directed alpha (currentIn n w)) y (edgesOf from to weight)) (sym begun) ∙ sym (s .next)
 
       met : settles tolerance n (currentIn n w) (nextIn n w1) ≡ lt root tolerance
@@ -52,7 +52,7 @@ module _ (n : ℕ) (directed : Bool) (from to : List ℕ) (weight : List Float) 
           ∙ ap (λ (d : Float). lt (sqrtOf d) tolerance) (sym ec)
           ∙ ap (λ (r : Float). lt r tolerance) (sym er)
 
-      stepped : katzStep (graphOf n directed from to weight) alpha tolerance beta (currentIn n w) ≡ round (currentIn n w2) (lt root tolerance)
+      stepped : katzStep (graphFrom n directed from to weight) alpha tolerance beta (currentIn n w) ≡ round (currentIn n w2) (lt root tolerance)
       stepped =
           ap (λ (y : List Float). round y (settles tolerance n (currentIn n w) y)) made
           ∙ ap (λ (b : Bool). round (nextIn n w1) b) met
@@ -60,7 +60,7 @@ module _ (n : ℕ) (directed : Bool) (from to : List ℕ) (weight : List Float) 
 
   module _ (settings : Settings) (flag : Bool) (beta : List Float) {w w1 : List Float} (v : Vectors n w (listOf (λ _. zeroF) n) (betaOf flag beta n) w1) where
     abbrev Done : Rounds → List Float → Type 0
-    Done r w′ = RoundsDone n settings (katzRounds (graphOf n directed from to weight) settings flag beta) w r w′
+    Done r w′ = RoundsDone n settings (katzRounds (graphFrom n directed from to weight) settings flag beta) w r w′
 
     -- no nodes
     pub run-none : n ≡ 0 → Done (record { settings = settings; rounds = 0; settled = true }) w1
@@ -74,11 +74,11 @@ module _ (n : ℕ) (directed : Bool) (from to : List ℕ) (weight : List Float) 
 
     -- some: r and w2 are what the rounds made of w1
     pub run-some : {r : Rounds} {w2 : List Float} → (n ≡ 0 → ⊥)
-        → RoundsDone n settings (outcomeFrom (katzStep (graphOf n directed from to weight) (settings .damping) (settings .tolerance) (betaOf flag beta n)) (settings .limit) 0 (currentIn n w1)) w1 r w2
+        → RoundsDone n settings (outcomeFrom (katzStep (graphFrom n directed from to weight) (settings .damping) (settings .tolerance) (betaOf flag beta n)) (settings .limit) 0 (currentIn n w1)) w1 r w2
         → Done r w2
     unfolding katzRounds outcome
     run-some {r} {w2} e d =
-        let step = katzStep (graphOf n directed from to weight) (settings .damping) (settings .tolerance) (betaOf flag beta n) in
+        let step = katzStep (graphFrom n directed from to weight) (settings .damping) (settings .tolerance) (betaOf flag beta n) in
         record {
           front = front-then (v .front) (d .front);
           settings-kept = d .settings-kept;

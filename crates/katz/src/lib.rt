@@ -10,14 +10,14 @@ ghost use mathlib.Core.List.{foldl};
 ghost use Prim.Native.Nat.{_<_};
 ghost use lib.ListN.{length};
 ghost use Rattle.answers.specs.Answers.{saidEnded};
-ghost use Rattle.graph.specs.Edges.{edgesOf};
+ghost use Rattle.graph.specs.Edges.{edgesOf, graphFrom};
 ghost use Rattle.graph.specs.Given.{given as lent};
 ghost use Rattle.graph.specs.Left.{left};
 ghost use Rattle.regions.specs.Region.{zeroF, listOf};
 ghost use Rattle.rounds.specs.Rounds.{outcomeFrom};
 ghost use Rattle.rounds.specs.Vectors.{currentIn, nextIn, squaredChange, Vectors};
 ghost use Rattle.katz.specs.Katz.{betaAt, betaOf, katzEdge, katzStep, katzRounds, katzOutcome};
-ghost use Rattle.rounds.specs.Steps.{graphOf, SpreadsPre, RoundDone, RoundsDone};
+ghost use Rattle.rounds.specs.Steps.{SpreadsPre, RoundDone, RoundsDone};
 ghost use Rattle.katz.specs.Steps.{BetaPre, RunPre, RoundPre};
 
 // The settings' damping is alpha; beta is 1 for each node unless `given`.
@@ -78,7 +78,7 @@ fn run(
     wf: &mut [f64],
 ) -> Rounds
     requires { ⌜ RunPre nodes (now from) (now to) (now weight) given (now beta) (now wf) ⌝ }
-    ensures { λ r. ⌜ RoundsDone nodes settings (katzRounds (graphOf nodes directed (now (from .entry)) (now (to .entry)) (now (weight .entry))) settings given (now (beta .entry))) (now (wf .entry)) r (now (wf .exit)) ⌝ }
+    ensures { λ r. ⌜ RoundsDone nodes settings (katzRounds (graphFrom nodes directed (now (from .entry)) (now (to .entry)) (now (weight .entry))) settings given (now (beta .entry))) (now (wf .entry)) r (now (wf .exit)) ⌝ }
 {
     begin(nodes, given, beta, wf);
     if nodes == 0 {
@@ -104,7 +104,7 @@ fn run_on(
     wf: &mut [f64],
 ) -> Rounds
     requires { ⌜ RoundPre nodes (now from) (now to) (now weight) given (now beta) (now wf) ⌝ }
-    ensures { λ r. ⌜ RoundsDone nodes settings (outcomeFrom (katzStep (graphOf nodes directed (now (from .entry)) (now (to .entry)) (now (weight .entry))) (settings .damping) (settings .tolerance) (betaOf given (now (beta .entry)) nodes)) (settings .limit) 0 (currentIn nodes (now (wf .entry)))) (now (wf .entry)) r (now (wf .exit)) ⌝ }
+    ensures { λ r. ⌜ RoundsDone nodes settings (outcomeFrom (katzStep (graphFrom nodes directed (now (from .entry)) (now (to .entry)) (now (weight .entry))) (settings .damping) (settings .tolerance) (betaOf given (now (beta .entry)) nodes)) (settings .limit) 0 (currentIn nodes (now (wf .entry)))) (now (wf .entry)) r (now (wf .exit)) ⌝ }
 {
     let alpha = settings.damping;
     let tolerance = settings.tolerance;
@@ -153,7 +153,7 @@ fn round(
     wf: &mut [f64],
 ) -> bool
     requires { ⌜ RoundPre nodes (now from) (now to) (now weight) given (now beta) (now wf) ⌝ }
-    ensures { λ r. ⌜ RoundDone nodes (katzStep (graphOf nodes directed (now (from .entry)) (now (to .entry)) (now (weight .entry))) alpha tolerance (betaOf given (now (beta .entry)) nodes)) (betaOf given (now (beta .entry)) nodes) (now (wf .entry)) r (now (wf .exit)) ⌝ }
+    ensures { λ r. ⌜ RoundDone nodes (katzStep (graphFrom nodes directed (now (from .entry)) (now (to .entry)) (now (weight .entry))) alpha tolerance (betaOf given (now (beta .entry)) nodes)) (betaOf given (now (beta .entry)) nodes) (now (wf .entry)) r (now (wf .exit)) ⌝ }
 {
     spread_edges(nodes, directed, from, to, weight, alpha, wf);
     let change = advance(nodes, given, beta, wf);

@@ -3,10 +3,9 @@ use mathlib.Core.Bool.{false}
 use mathlib.Core.List.{List, foldl}
 use Prim.Native.Nat.{ℕ}
 use lib.Dec.{ltb}
-use lib.IntN.{pos}
 use lib.ListN.{length}
-use lib.Ieee.{Float, binary64, ofInt, add, mul}
-use Rattle.regions.specs.Doubles.{two}
+use lib.Ieee.{Float, binary64, add, mul}
+use Rattle.regions.specs.Doubles.{double, two}
 use Rattle.regions.specs.Region.{over, listOf}
 use Rattle.answers.specs.Answers.{Said, done}
 use Rattle.graph.specs.Edges.{neighbours}
@@ -16,7 +15,7 @@ use Rattle.graph.specs.Left.{Left, wiped, unlessRefused}
 
 -- the number of entries of v, in its nearest double
 abbrev pub entryCount : (ℕ → List ℕ) → ℕ → Float
-entryCount rows v = ofInt binary64 (pos (length (rows v)))
+entryCount rows v = double (length (rows v))
 
 -- the sum before the neighbours
 abbrev pub ownPart : Float → Float

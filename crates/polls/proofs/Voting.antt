@@ -1,6 +1,6 @@
 -- The turns of an election's loops: votes edge by edge, the elected silenced one by one, the first highest, a row's entries weakened. Assumes nothing.
 use mathlib.Core.Path.{_≡_, refl, sym, ap, _∙_}
-use mathlib.Core.Bool.{Bool, true, false, not, _&&_, _||_, cond}
+use mathlib.Core.Bool.{Bool, true, false, _||_, cond}
 use mathlib.Core.Logic.{⊎-elim}
 use mathlib.Core.List.{List, [], _∷_, _++_, foldl, foldl-append}
 use Prim.Native.Nat.{ℕ, zero, suc, _+_, _*_, _≤_, _<_}
@@ -16,11 +16,11 @@ use Rattle.regions.proofs.Cases.{bool-cases}
 use Rattle.regions.proofs.Fronts.{hitD, missD}
 use Rattle.regions.proofs.Frames.{frame-none, frame-set, frame-then}
 use Rattle.roots.specs.Maximum.{maxOf}
-use Rattle.graph.specs.Edges.{Edge, edge, edgesFrom, edgesOf}
+use Rattle.graph.specs.Edges.{listed, Edge, edge, edgesFrom, edgesOf}
 use Rattle.graph.specs.Pres.{Sized, Inside}
 use Rattle.graph.proofs.Edges.{edges-long, edges-at, noEdge}
-use Rattle.polls.specs.Votes.{gains, votes, listed, firstHighest, weaker}
-use Rattle.polls.specs.Steps.{VotePre, gained, voted, TallyPre, CountPre, Tallied, SilencePre, Silenced}
+use Rattle.polls.specs.Votes.{gains, votes, firstHighest, weaker}
+use Rattle.polls.specs.Steps.{VotePre, gained, voted, TallyPre, CountPre, Tallied, Silenced}
 
 -- ---- one edge
 module _ (n : ℕ) (w : List Float) (room : 2 * n ≤ length w) where

@@ -6,10 +6,10 @@ use Prim.Native.Nat.{ℕ, _+_, _*_, _≤_, _<_}
 use lib.ListN.{length, getD, set, take}
 use lib.Ieee.{Float, binary64, nan, add}
 use Rattle.regions.specs.Region.{zeroF, Frame}
-use Rattle.graph.specs.Edges.{edgesOf}
+use Rattle.graph.specs.Edges.{listed, edgesOf}
 use Rattle.graph.specs.Pres.{Sized, Inside}
 use Rattle.rows.specs.Rows.{rowAt, RowsFit}
-use Rattle.polls.specs.Votes.{votes, listed, weaker}
+use Rattle.polls.specs.Votes.{votes, weaker}
 
 -- ---- one edge
 

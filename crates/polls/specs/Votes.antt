@@ -1,6 +1,6 @@
 -- One election: the votes, the first highest score, and what a neighbour of the elected loses (document 01, "VoteRank"). Definitions only.
-use mathlib.Core.Bool.{Bool, false, not, _&&_, _||_, cond}
-use mathlib.Core.List.{List, [], _∷_, foldl}
+use mathlib.Core.Bool.{Bool, not, _&&_, cond}
+use mathlib.Core.List.{List, foldl}
 use Prim.Native.Nat.{ℕ, zero, suc}
 use lib.Dec.{eqb}
 use lib.ListN.{getD, set}
@@ -18,11 +18,6 @@ gains directed ability v sum e =
 -- the votes for v: the edges in list order, self-loops included
 unfoldable pub votes : Bool → (ℕ → Float) → List Edge → ℕ → Float
 votes directed ability es v = foldl (gains directed ability v) zeroF es
-
--- v stands in the list
-unfoldable pub listed : ℕ → List ℕ → Bool
-listed v [] = false
-listed v (x ∷ xs) = eqb x v || listed v xs
 
 -- of the nodes 0 to k the first with the highest score
 unfoldable pub firstHighest : (ℕ → Float) → ℕ → ℕ

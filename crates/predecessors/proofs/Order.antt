@@ -9,30 +9,30 @@ use lib.Dec.{eqb}
 use lib.ListN.{length, getD, take, length-append}
 use lib.Seq.{take-at, take-suc}
 use Rattle.regions.proofs.Cases.{below-or-not}
-use Rattle.graph.specs.Edges.{Graph, entries}
+use Rattle.graph.specs.Edges.{listed, Graph, entries}
 use Rattle.hops.specs.Sum.{sumOver, times}
 use Rattle.hops.proofs.Sums.{eq-or-ne, eqb-yes, eqb-no, same-yes, same-no}
-use Rattle.predecessors.specs.Order.{holds, admit, joined, entriesOf, levels, order}
+use Rattle.predecessors.specs.Order.{admit, joined, entriesOf, levels, order}
 
 -- ---- what a list holds
 
-pub holds-not : (l : List ℕ) (x : ℕ) → times x l ≡ 0 → holds x l ≡ false
-unfolding holds sumOver
-holds-not [] x e = refl
-holds-not (y ∷ ys) x e = go (eq-or-ne y x) (holds-not ys x)
+pub listed-not : (l : List ℕ) (x : ℕ) → times x l ≡ 0 → listed x l ≡ false
+unfolding listed sumOver
+listed-not [] x e = refl
+listed-not (y ∷ ys) x e = go (eq-or-ne y x) (listed-not ys x)
   where
-    go : (y ≡ x) ⊎ (y ≢ x) → (times x ys ≡ 0 → holds x ys ≡ false) → (eqb y x || holds x ys) ≡ false
+    go : (y ≡ x) ⊎ (y ≢ x) → (times x ys ≡ 0 → listed x ys ≡ false) → (eqb y x || listed x ys) ≡ false
     go (inl p) ih = absurd (omega (arith, same-yes p))
-    go (inr n) ih = ap (λ (b : Bool). b || holds x ys) (eqb-no n) ∙ ih (omega (arith, same-no n))
+    go (inr n) ih = ap (λ (b : Bool). b || listed x ys) (eqb-no n) ∙ ih (omega (arith, same-no n))
 
-pub holds-it : (l : List ℕ) (x : ℕ) → 0 < times x l → holds x l ≡ true
-unfolding holds sumOver
-holds-it [] x h = absurd (omega arith)
-holds-it (y ∷ ys) x h = go (eq-or-ne y x) (holds-it ys x)
+pub listed-it : (l : List ℕ) (x : ℕ) → 0 < times x l → listed x l ≡ true
+unfolding listed sumOver
+listed-it [] x h = absurd (omega arith)
+listed-it (y ∷ ys) x h = go (eq-or-ne y x) (listed-it ys x)
   where
-    go : (y ≡ x) ⊎ (y ≢ x) → (0 < times x ys → holds x ys ≡ true) → (eqb y x || holds x ys) ≡ true
-    go (inl p) ih = ap (λ (b : Bool). b || holds x ys) (eqb-yes p)
-    go (inr n) ih = ap (λ (b : Bool). b || holds x ys) (eqb-no n) ∙ ih (omega (arith, same-no n))
+    go : (y ≡ x) ⊎ (y ≢ x) → (0 < times x ys → listed x ys ≡ true) → (eqb y x || listed x ys) ≡ true
+    go (inl p) ih = ap (λ (b : Bool). b || listed x ys) (eqb-yes p)
+    go (inr n) ih = ap (λ (b : Bool). b || listed x ys) (eqb-no n) ∙ ih (omega (arith, same-no n))
 
 -- ---- joining
 
@@ -58,7 +58,7 @@ begins-take : {a b : List ℕ} → Begins a b → take (length a) b ≡ a
 begins-take {a} {b} p = ap (take (length a)) (p .is) ∙ take-at a (p .rest) (length a) refl
 
 admit-begins : (l : List ℕ) (x : ℕ) → Begins l (admit l x)
-admit-begins l x = go (holds x l)
+admit-begins l x = go (listed x l)
   where
     go : (b : Bool) → Begins l (cond b l (l ++ (x ∷ [])))
     go true = begins [] (sym (append-nil l))
@@ -77,11 +77,11 @@ joined-append l xs ys = foldl-append admit l xs ys
 -- one number more: it comes to the end, or is held already
 pub joined-new : (l q xs : List ℕ) (x : ℕ) → q ≡ joined l xs → times x q ≡ 0 → q ++ (x ∷ []) ≡ joined l (xs ++ (x ∷ []))
 joined-new l q xs x e n =
-    sym (ap (λ (b : Bool). cond b q (q ++ (x ∷ []))) (holds-not q x n)) ∙ ap (λ (t : List ℕ). admit t x) e ∙ sym (joined-append l xs (x ∷ []))
+    sym (ap (λ (b : Bool). cond b q (q ++ (x ∷ []))) (listed-not q x n)) ∙ ap (λ (t : List ℕ). admit t x) e ∙ sym (joined-append l xs (x ∷ []))
 
 pub joined-old : (l q xs : List ℕ) (x : ℕ) → q ≡ joined l xs → 0 < times x q → q ≡ joined l (xs ++ (x ∷ []))
 joined-old l q xs x e n =
-    sym (ap (λ (b : Bool). cond b q (q ++ (x ∷ []))) (holds-it q x n)) ∙ ap (λ (t : List ℕ). admit t x) e ∙ sym (joined-append l xs (x ∷ []))
+    sym (ap (λ (b : Bool). cond b q (q ++ (x ∷ []))) (listed-it q x n)) ∙ ap (λ (t : List ℕ). admit t x) e ∙ sym (joined-append l xs (x ∷ []))
 
 -- ---- the entries of a list's nodes
 

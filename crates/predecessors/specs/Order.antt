@@ -1,20 +1,15 @@
 -- The breadth-first order from a node, level by level and first come first, and the predecessor entries in the order in which it enters them
 -- (Brandes 2001; graphina's betweenness.rs; document 01, "Betweenness"). Definitions only.
-use mathlib.Core.Bool.{Bool, false, _||_, cond}
+use mathlib.Core.Bool.{cond}
 use mathlib.Core.List.{List, [], _∷_, _++_, foldl}
 use Prim.Native.Nat.{ℕ, zero, suc, _+_}
 use lib.Dec.{eqb}
-use Rattle.graph.specs.Edges.{Graph, entries, only}
+use Rattle.graph.specs.Edges.{listed, Graph, entries, only}
 use Rattle.hops.specs.Hops.{dist}
-
--- whether x stands in a list
-unfoldable pub holds : ℕ → List ℕ → Bool
-holds x [] = false
-holds x (y ∷ ys) = eqb y x || holds x ys
 
 -- a list with x at its end, unless it holds x
 abbrev pub admit : List ℕ → ℕ → List ℕ
-admit l x = cond (holds x l) l (l ++ (x ∷ []))
+admit l x = cond (listed x l) l (l ++ (x ∷ []))
 
 -- a list with those of xs behind it that it does not hold, each where it first comes
 abbrev pub joined : List ℕ → List ℕ → List ℕ

@@ -3,9 +3,9 @@ use mathlib.Core.Bool.{false, cond}
 use mathlib.Core.List.{List}
 use Prim.Native.Nat.{ℕ, _-_}
 use lib.Dec.{ltb}
-use lib.IntN.{pos}
 use lib.ListN.{length}
-use lib.Ieee.{Float, binary64, ofInt, div}
+use lib.Ieee.{Float, binary64, div}
+use Rattle.regions.specs.Doubles.{double}
 use Rattle.regions.specs.Region.{zeroF, over, listOf}
 use Rattle.answers.specs.Answers.{Said, done}
 use Rattle.graph.specs.Edges.{Graph}
@@ -16,7 +16,7 @@ use Rattle.reach.specs.Reach.{othersIn}
 
 -- k of the n - 1 other nodes; 0 if there is none
 abbrev pub shareOf : ℕ → ℕ → Float
-shareOf n k = cond (ltb 1 n) (div binary64 (ofInt binary64 (pos k)) (ofInt binary64 (pos (n - 1)))) zeroF
+shareOf n k = cond (ltb 1 n) (div binary64 (double k) (double (n - 1))) zeroF
 
 -- the score of s
 unfoldable pub reachScore : Graph → ℕ → ℕ → Float

@@ -8,14 +8,9 @@ use lib.Ieee.{Float}
 use Rattle.regions.specs.Region.{Front}
 use Rattle.answers.specs.declared.Settings.{Settings}
 use Rattle.answers.specs.declared.Rounds.{Rounds}
-use Rattle.graph.specs.Edges.{Graph, edgesOf}
 use Rattle.graph.specs.Pres.{Sound}
 use Rattle.rounds.specs.Rounds.{Round, round, Out, out}
 use Rattle.rounds.specs.Vectors.{currentIn, nextIn}
-
--- the graph that the slices hold
-abbrev pub graphOf : ℕ → Bool → List ℕ → List ℕ → List Float → Graph
-graphOf n directed from to weight = record { nodes = n; directed = directed; edges = edgesOf from to weight }
 
 -- a sound graph, and room for the two vectors
 pub record SpreadsPre (n : ℕ) (from to : List ℕ) (weight wf : List Float) : Type 0 where

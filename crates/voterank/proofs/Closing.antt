@@ -1,5 +1,5 @@
 -- How `voterank` ends: what its steps leave is the outcome. Assumes nothing.
-use mathlib.Core.Path.{_≡_, refl, sym, ap, _∙_}
+use mathlib.Core.Path.{_≡_, sym, ap, _∙_}
 use mathlib.Core.Bool.{Bool, true, false}
 use mathlib.Core.List.{List, []}
 use Prim.Native.Nat.{ℕ, _+_, _≤_, _<_}
@@ -7,7 +7,7 @@ use native.Mathlib.Nat.{zero-add}
 use native.Mathlib.Omega.{arith}
 use borrow.Author.Tests.{ltb-false}
 use lib.Dec.{ltb}
-use lib.ListN.{length, getD, take, replicate, length-take, length-replicate, getD-replicate}
+use lib.ListN.{length, getD, take, replicate, length-replicate, getD-replicate}
 use lib.Seq.{ext-getD, getD-take, length-take-le}
 use lib.Ieee.{Float, nan}
 use Rattle.regions.specs.Doubles.{one}
@@ -26,8 +26,8 @@ use Rattle.graph.proofs.Left.{refused, went-on}
 use Rattle.graph.proofs.Refusals.{plainTests, plain-ready, plain-fits}
 use Rattle.rows.specs.Rows.{Built}
 use Rattle.laplacian.proofs.Steps.{fronts, Used, wipe-pre, wiped-is}
-use Rattle.voterank.specs.VoteRank.{Poll, poll, opening, decayOf, elections, seatsOf, closing, voterankOutcome}
-use Rattle.voterank.specs.Elections.{pollAt, graphFrom, ElectPre, Held}
+use Rattle.voterank.specs.VoteRank.{Poll, poll, opening, decayOf, seatsOf, closing, voterankOutcome}
+use Rattle.voterank.specs.Elections.{pollAt, ElectPre, Held}
 
 -- the rows of the table that can hold of a call with so many seats
 abbrev pub seatTests : Given (List ℕ) → ℕ → Tests

@@ -6,7 +6,7 @@ use mathlib.Core.List.{List, [], _∷_, _++_, foldl}
 use Prim.Native.Nat.{ℕ, zero, suc, _+_, _*_, _-_, _≤_, _<_}
 use native.Mathlib.Numerals.{add-one}
 use native.Mathlib.Omega.{arith}
-use lib.ListN.{length, getD, set, take, length-set, length-take}
+use lib.ListN.{length, getD, set, take, length-take}
 use lib.Seq.{ext-getD, getD-take, take-suc-set}
 use lib.Ieee.{Float, binary64, nan, sub, lt}
 use Rattle.regions.specs.Region.{zeroF, Front, Frame}
@@ -14,11 +14,11 @@ use Rattle.regions.proofs.Cases.{same-or-not}
 use Rattle.regions.proofs.Fronts.{front-none, front-set, front-then, front-wide, hitD, missD}
 use Rattle.regions.proofs.Frames.{frame-front, frame-then}
 use Rattle.roots.specs.Maximum.{maxOf}
-use Rattle.graph.specs.Edges.{edgesOf, Graph, entries}
-use Rattle.rows.specs.Rows.{rowAt, RowsFit}
-use Rattle.voterank.specs.VoteRank.{Poll, poll, pollScore, winner, electing, elections}
-use Rattle.polls.specs.Votes.{votes, listed, firstHighest, weaker}
-use Rattle.voterank.specs.Elections.{pollAt, graphFrom, ElectPre, Held}
+use Rattle.graph.specs.Edges.{listed, Graph, graphFrom, entries}
+use Rattle.rows.specs.Rows.{rowAt}
+use Rattle.voterank.specs.VoteRank.{poll, pollScore, winner, electing, elections}
+use Rattle.polls.specs.Votes.{firstHighest, weaker}
+use Rattle.voterank.specs.Elections.{pollAt, ElectPre, Held}
 use Rattle.polls.specs.Steps.{Tallied, TallyPre, SilencePre, Silenced, WeakenPre, weakened}
 use Rattle.polls.proofs.Voting.{votes-same, highest-same}
 

@@ -7,7 +7,7 @@ use mathlib.Core.List.{List, [], _∷_, _++_, foldl}
 use Prim.Native.Nat.{ℕ, zero, suc, _+_, _-_, _≤_, _<_}
 use native.Mathlib.Omega.{arith}
 use borrow.Author.Tests.{eq-eqb}
-use lib.Dec.{eqb, ltb}
+use lib.Dec.{eqb}
 use lib.ListN.{length, getD, set, replicate, length-set, length-append, length-replicate, getD-replicate, List·getD-append}
 use lib.Seq.{getD-at}
 use lib.Ieee.{Float, binary64, nan, add, sub, lt}
@@ -15,14 +15,13 @@ use Rattle.regions.specs.Doubles.{one}
 use Rattle.regions.specs.Region.{zeroF}
 use Rattle.regions.proofs.Cases.{bool-cases, same-or-not, below-or-not}
 use Rattle.regions.proofs.Fronts.{hitD, missD}
-use Rattle.roots.specs.Maximum.{maxOf}
-use Rattle.graph.specs.Edges.{Edge, Graph, entries}
+use Rattle.graph.specs.Edges.{listed, Edge, Graph, entries}
 use Rattle.graph.specs.Given.{Given, graphIn}
 use Rattle.graph.specs.Pres.{Sound}
 use Rattle.hops.specs.Hops.{EndsIn}
 use Rattle.hops.proofs.Workspace.{valid}
-use Rattle.voterank.specs.VoteRank.{Poll, poll, abilityOf, opening, pollScore, winner, electing, elections, decayOf, seatsOf, closing}
-use Rattle.polls.specs.Votes.{gains, votes, listed, firstHighest, weaker}
+use Rattle.voterank.specs.VoteRank.{Poll, abilityOf, opening, pollScore, winner, electing, elections, decayOf, seatsOf, closing}
+use Rattle.polls.specs.Votes.{gains, votes, firstHighest, weaker}
 use Rattle.polls.proofs.Voting.{highest-among}
 use Rattle.voterank.proofs.Order.{fine, zero-fine, one-fine, fine-cond, fine-add, fine-max, one-way, not-above, not-below}
 

@@ -6,7 +6,7 @@ use Prim.Native.Nat.{ℕ, _*_, _≤_, _<_}
 use lib.ListN.{length, take}
 use lib.Ieee.{Float}
 use Rattle.regions.specs.Region.{Front}
-use Rattle.graph.specs.Edges.{edgesOf, Graph, entries}
+use Rattle.graph.specs.Edges.{graphFrom, entries}
 use Rattle.graph.specs.Pres.{Sized, Inside}
 use Rattle.rows.specs.Rows.{rowAt, RowsFit}
 use Rattle.voterank.specs.VoteRank.{Poll, poll, elections}
@@ -14,10 +14,6 @@ use Rattle.voterank.specs.VoteRank.{Poll, poll, elections}
 -- the poll that the lent slices hold after k elections
 abbrev pub pollAt : ℕ → ℕ → List ℕ → List Float → Poll
 pollAt n k elected w = poll (take n w) (take k elected)
-
--- the graph of three edge slices
-abbrev pub graphFrom : ℕ → Bool → List ℕ → List ℕ → List Float → Graph
-graphFrom n directed from to weight = record { nodes = n; directed = directed; edges = edgesOf from to weight }
 
 -- what `elect` asks: edges whose ends are nodes, the rows of their graph in r, no more seats than nodes, a slot for each, and room for abilities and votes
 pub record ElectPre (n : ℕ) (directed : Bool) (from to : List ℕ) (weight : List Float) (seats : ℕ) (elected r : List ℕ) (w : List Float) : Type 0 where

@@ -1,19 +1,18 @@
 -- VoteRank: the election rule (document 01, "VoteRank"; Zhang et al.; graphina's other.rs). Definitions only.
-use mathlib.Core.Bool.{Bool, true, false, cond}
+use mathlib.Core.Bool.{Bool, false, cond}
 use mathlib.Core.List.{List, [], _∷_, _++_, foldl}
 use Prim.Native.Nat.{ℕ, zero, suc, _*_, _-_, min}
 use lib.Dec.{ltb}
-use lib.IntN.{pos}
 use lib.ListN.{length, getD, set, replicate}
-use lib.Ieee.{Float, binary64, nan, ofInt, div, lt}
-use Rattle.regions.specs.Doubles.{one}
+use lib.Ieee.{Float, binary64, nan, div, lt}
+use Rattle.regions.specs.Doubles.{double, one}
 use Rattle.regions.specs.Region.{zeroF, over}
 use Rattle.answers.specs.Answers.{Said, done}
-use Rattle.graph.specs.Edges.{Graph, entries}
+use Rattle.graph.specs.Edges.{listed, Graph, entries}
 use Rattle.graph.specs.Given.{Given, graphIn}
 use Rattle.graph.specs.Left.{Left, wiped, unlessRefused}
 use Rattle.graph.specs.Refusals.{plainly}
-use Rattle.polls.specs.Votes.{votes, listed, firstHighest, weaker}
+use Rattle.polls.specs.Votes.{votes, firstHighest, weaker}
 
 -- ---- the decay
 
@@ -23,7 +22,7 @@ totalDegree directed m = cond directed m (2 * m)
 
 -- the average degree of n nodes
 abbrev pub averageDegree : ℕ → Bool → ℕ → Float
-averageDegree n directed m = div binary64 (ofInt binary64 (pos (totalDegree directed m))) (ofInt binary64 (pos n))
+averageDegree n directed m = div binary64 (double (totalDegree directed m)) (double n)
 
 -- the decay: the reciprocal of the average degree
 unfoldable pub decayOf : ℕ → Bool → ℕ → Float

@@ -7,14 +7,14 @@ use lib.Ieee.{Float, binary64, ofBits, ofInt, add, mul, div, nan}
 use Rattle.regions.specs.Doubles.{two}
 use Rattle.regions.specs.Region.{over, listOf, cleared, zeroF}
 use Rattle.answers.specs.Answers.{done}
-use Rattle.graph.specs.Edges.{edgesFrom, newestFirst, neighbours}
+use Rattle.graph.specs.Edges.{listed, edgesFrom, newestFirst, neighbours}
 use Rattle.graph.specs.Given.{Given, given}
 use Rattle.graph.specs.Checks.{sizeWrong, firstFault, nodeWrong, workWrong}
 use Rattle.graph.specs.Refusals.{firstOf, firstRefusal}
 use Rattle.graph.specs.Left.{left}
 use Rattle.hops.specs.Sum.{sumOver, same}
 use Rattle.hops.specs.Hops.{walks, seek, dist, count, exceedsBelow, exceeds}
-use Rattle.predecessors.specs.Order.{holds, entriesOf, levels, copies, entered}
+use Rattle.predecessors.specs.Order.{entriesOf, levels, copies, entered}
 use Rattle.brandes.specs.Shares.{passed, leave, fromStart, scoresAfter, someExceeds}
 use Rattle.betweenness.specs.Betweenness.{scaled, betweennessScores, betweennessOutcome}
 use Rattle.crossings.specs.Totals.{leaveBy, totalsFrom, totalsAfter, scaledTotal}
@@ -59,22 +59,22 @@ pub record P4-edges : Type 0 where
       ≡ left (done tt) (edgeScores (two ∷ two ∷ nan ∷ []) (two ∷ two ∷ nan ∷ [])) (replicate 48 0 ++ (7 ∷ [])) (replicate 6 0 ++ (7 ∷ [])) (replicate 26 zeroF ++ (nan ∷ []))
 
 pub p2 : P2
-unfolding betweennessOutcome betweennessScores someExceeds scoresAfter fromStart scaled leave passed entered copies levels entriesOf holds exceeds exceedsBelow dist count seek walks sumOver same neighbours newestFirst edgesFrom firstRefusal firstOf sizeWrong nodeWrong firstFault workWrong over cleared listOf ofBits ofInt add mul div
+unfolding betweennessOutcome betweennessScores someExceeds scoresAfter fromStart scaled leave passed entered copies levels entriesOf listed exceeds exceedsBelow dist count seek walks sumOver same neighbours newestFirst edgesFrom firstRefusal firstOf sizeWrong nodeWrong firstFault workWrong over cleared listOf ofBits ofInt add mul div
 p2 = record { raw = refl }
 
 pub p3-betweenness : P3-betweenness
-unfolding betweennessOutcome betweennessScores someExceeds scoresAfter fromStart scaled leave passed entered copies levels entriesOf holds exceeds exceedsBelow dist count seek walks sumOver same neighbours newestFirst edgesFrom firstRefusal firstOf sizeWrong nodeWrong firstFault workWrong over cleared listOf ofBits ofInt add mul div
+unfolding betweennessOutcome betweennessScores someExceeds scoresAfter fromStart scaled leave passed entered copies levels entriesOf listed exceeds exceedsBelow dist count seek walks sumOver same neighbours newestFirst edgesFrom firstRefusal firstOf sizeWrong nodeWrong firstFault workWrong over cleared listOf ofBits ofInt add mul div
 p3-betweenness = record { raw = refl }
 
 pub p4-edges : P4-edges
-unfolding edgeBetweennessOutcome forwardScores backScores scaledTotal totalsAfter totalsFrom leaveBy someExceeds passed entered copies levels entriesOf holds exceeds exceedsBelow dist count seek walks sumOver same neighbours newestFirst edgesFrom firstRefusal firstOf sizeWrong nodeWrong firstFault workWrong over cleared listOf ofBits ofInt add mul div
+unfolding edgeBetweennessOutcome forwardScores backScores scaledTotal totalsAfter totalsFrom leaveBy someExceeds passed entered copies levels entriesOf listed exceeds exceedsBelow dist count seek walks sumOver same neighbours newestFirst edgesFrom firstRefusal firstOf sizeWrong nodeWrong firstFault workWrong over cleared listOf ofBits ofInt add mul div
 p4-edges = record { raw = refl }
 
 -- ---- beside the table
 
 -- normalized with two nodes: neither scaled nor halved
 two-nodes : betweennessOutcome true pair ≡ left (done tt) (replicate 2 zeroF) (replicate 32 0) (replicate 4 0) (replicate 16 zeroF)
-unfolding betweennessOutcome betweennessScores someExceeds scoresAfter fromStart scaled leave passed entered copies levels entriesOf holds exceeds exceedsBelow dist count seek walks sumOver same neighbours newestFirst edgesFrom firstRefusal firstOf sizeWrong nodeWrong firstFault workWrong over cleared listOf ofBits ofInt add mul div
+unfolding betweennessOutcome betweennessScores someExceeds scoresAfter fromStart scaled leave passed entered copies levels entriesOf listed exceeds exceedsBelow dist count seek walks sumOver same neighbours newestFirst edgesFrom firstRefusal firstOf sizeWrong nodeWrong firstFault workWrong over cleared listOf ofBits ofInt add mul div
 two-nodes = refl
 
 -- undirected 0-1, the same edge listed the other way round, a self-loop at 1, and 1-2
@@ -84,7 +84,7 @@ looped = given 3 false (0 ∷ 1 ∷ 1 ∷ 1 ∷ []) (1 ∷ 0 ∷ 1 ∷ 2 ∷ [])
 -- reversed and repeated edges share their totals, and a self-loop's slots are +0.0
 shared : edgeBetweennessOutcome false looped
     ≡ left (done tt) (edgeScores (two ∷ two ∷ zeroF ∷ two ∷ nan ∷ []) (two ∷ two ∷ zeroF ∷ two ∷ nan ∷ [])) (replicate 64 0 ++ (7 ∷ [])) (replicate 6 0 ++ (7 ∷ [])) (replicate 34 zeroF ++ (nan ∷ []))
-unfolding edgeBetweennessOutcome forwardScores backScores scaledTotal totalsAfter totalsFrom leaveBy someExceeds passed entered copies levels entriesOf holds exceeds exceedsBelow dist count seek walks sumOver same neighbours newestFirst edgesFrom firstRefusal firstOf sizeWrong nodeWrong firstFault workWrong over cleared listOf ofBits ofInt add mul div
+unfolding edgeBetweennessOutcome forwardScores backScores scaledTotal totalsAfter totalsFrom leaveBy someExceeds passed entered copies levels entriesOf listed exceeds exceedsBelow dist count seek walks sumOver same neighbours newestFirst edgesFrom firstRefusal firstOf sizeWrong nodeWrong firstFault workWrong over cleared listOf ofBits ofInt add mul div
 shared = refl
 
 -- normalized, two nodes: 2/(2*1) is 1, and nothing is halved
@@ -92,5 +92,5 @@ abbrev one-edge : Given EdgeScores
 one-edge = given 2 false (0 ∷ []) (1 ∷ []) (nan ∷ []) (edgeScores (nan ∷ []) (nan ∷ [])) (replicate 32 7) (replicate 4 7) (replicate 16 nan)
 
 normalized-edge : edgeBetweennessOutcome true one-edge ≡ left (done tt) (edgeScores (one ∷ []) (one ∷ [])) (replicate 32 0) (replicate 4 0) (replicate 16 zeroF)
-unfolding edgeBetweennessOutcome forwardScores backScores scaledTotal totalsAfter totalsFrom leaveBy someExceeds passed entered copies levels entriesOf holds exceeds exceedsBelow dist count seek walks sumOver same neighbours newestFirst edgesFrom firstRefusal firstOf sizeWrong nodeWrong firstFault workWrong over cleared listOf ofBits ofInt add mul div
+unfolding edgeBetweennessOutcome forwardScores backScores scaledTotal totalsAfter totalsFrom leaveBy someExceeds passed entered copies levels entriesOf listed exceeds exceedsBelow dist count seek walks sumOver same neighbours newestFirst edgesFrom firstRefusal firstOf sizeWrong nodeWrong firstFault workWrong over cleared listOf ofBits ofInt add mul div
 normalized-edge = refl

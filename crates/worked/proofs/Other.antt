@@ -1,7 +1,7 @@
 -- P4's and P5's parts of degree, Laplacian and VoteRank, computed from the definitions that the contracts cite: each row a call's whole outcome.
 -- Assumes nothing.
 use mathlib.Core.Path.{_≡_, refl}
-use mathlib.Core.Bool.{true, false}
+use mathlib.Core.Bool.{false}
 use mathlib.Core.List.{List, [], _∷_, _++_}
 use Prim.Native.Nat.{ℕ}
 use lib.ListN.{replicate}
@@ -9,7 +9,7 @@ use lib.Ieee.{Float, binary64, ofBits, ofInt, add, sub, mul, div, lt, eq, isNan,
 use Rattle.regions.specs.Region.{over, listOf, cleared, zeroF}
 use Rattle.roots.specs.Maximum.{maxOf, under}
 use Rattle.answers.specs.Answers.{done, refusal}
-use Rattle.graph.specs.Edges.{edgesFrom, newestFirst, neighbours}
+use Rattle.graph.specs.Edges.{listed, edgesFrom, newestFirst, neighbours}
 use Rattle.graph.specs.Given.{Given, given}
 use Rattle.graph.specs.Checks.{sizeWrong, firstFault, nodeWrong, workWrong}
 use Rattle.graph.specs.Refusals.{firstOf, firstRefusal}
@@ -21,7 +21,7 @@ use Rattle.hops.specs.Hops.{walks, seek, dist}
 use Rattle.reach.specs.Reach.{othersIn}
 use Rattle.reaching.specs.Reaching.{reachScore, reachingOutcome}
 use Rattle.voterank.specs.VoteRank.{decayOf, pollScore, winner, electing, elections, closing, voterankOutcome}
-use Rattle.polls.specs.Votes.{votes, listed, firstHighest}
+use Rattle.polls.specs.Votes.{votes, firstHighest}
 
 abbrev float : ℕ → Float
 float bits = ofBits binary64 bits

@@ -7,7 +7,7 @@ use Rattle.regions.specs.Region.{Front}
 use Rattle.regions.proofs.Fronts.{front-none, front-then}
 use Rattle.rounds.specs.Rounds.{outcomeFrom}
 use Rattle.rounds.specs.Vectors.{currentIn, nextIn}
-use Rattle.rounds.specs.Steps.{graphOf}
+use Rattle.graph.specs.Edges.{graphFrom}
 use Rattle.rounds.proofs.Rounds.{rounds-more, rounds-met, rounds-over}
 use Rattle.eigenvector.specs.Eigenvector.{eigenStep}
 use borrow.Author.Needs.{needs}
@@ -16,7 +16,7 @@ use Rattle.eigenvector.proofs.run_on.Tie as tie
 
 abbrev Inv-loop : tie.InvT-loop
 Inv-loop nodes directed from to weight settings start wf₀ tolerance limit k₀ wf k =
-    let step = eigenStep (graphOf nodes directed from to weight) tolerance in
+    let step = eigenStep (graphFrom nodes directed from to weight) tolerance in
     (k ≤ limit)
     × Front wf₀ (nodes + nodes) wf
     × (nextIn nodes wf ≡ currentIn nodes wf)

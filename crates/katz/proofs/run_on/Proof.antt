@@ -9,14 +9,14 @@ use Rattle.rounds.specs.Rounds.{outcomeFrom}
 use Rattle.rounds.specs.Vectors.{currentIn, nextIn}
 use Rattle.rounds.proofs.Rounds.{rounds-more, rounds-met, rounds-over}
 use Rattle.katz.specs.Katz.{betaOf, katzStep}
-use Rattle.rounds.specs.Steps.{graphOf}
+use Rattle.graph.specs.Edges.{graphFrom}
 use borrow.Author.Needs.{needs}
 use Rattle.katz.proofs.run_on.Statement.{statement}
 use Rattle.katz.proofs.run_on.Tie as tie
 
 abbrev Inv-loop : tie.InvT-loop
 Inv-loop nodes directed from to weight settings given beta wf₀ alpha tolerance limit k₀ wf k =
-    let step = katzStep (graphOf nodes directed from to weight) alpha tolerance (betaOf given beta nodes) in
+    let step = katzStep (graphFrom nodes directed from to weight) alpha tolerance (betaOf given beta nodes) in
     (k ≤ limit)
     × Front wf₀ (nodes + nodes) wf
     × (nextIn nodes wf ≡ betaOf given beta nodes)
