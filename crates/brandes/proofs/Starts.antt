@@ -1,7 +1,7 @@
 -- From a search that is over to the accumulation: what it asks, and what it comes to by the definitions. Assumes nothing.
-use mathlib.Core.Path.{_≡_, refl, sym, ap, _∙_, subst}
+use mathlib.Core.Path.{_≡_, sym, ap, _∙_, subst}
 use mathlib.Core.Logic.{_≢_, _⊎_, inl, inr}
-use mathlib.Core.List.{List, [], _∷_, foldr, List·Memᴰ, List·Memᴰ·head, List·Memᴰ·tail, List·Memᴰ·append-cases, List·Memᴰ·not-nil, List·Memᴰ·eq-of-singleton}
+use mathlib.Core.List.{List, [], _∷_, foldr, List·Memᴰ, List·Memᴰ·append-cases, List·Memᴰ·not-nil, List·Memᴰ·eq-of-singleton}
 use Prim.Native.Nat.{ℕ, zero, suc, _+_, _-_, _≤_, _<_}
 use native.Mathlib.Omega.{arith}
 use lib.ListN.{length, getD}
@@ -13,6 +13,7 @@ use Rattle.regions.proofs.Parts.{part-long, part-at, part-list}
 use Rattle.graph.specs.Edges.{Graph}
 use Rattle.hops.specs.Hops.{unreached, dist, count}
 use Rattle.hops.specs.Search.{cells}
+use Rattle.hops.proofs.Search.{getD-mem}
 use Rattle.predecessors.specs.Order.{order, predecessors}
 use Rattle.brandes.specs.Shares.{Sums, leave}
 use Rattle.brandes.specs.Steps.{heldPredecessors, leftBy, HeldEntries, AccumulatePre}
@@ -30,11 +31,6 @@ list-mem f (suc n) y m = go (List·Memᴰ·append-cases (listOf f n) m) (list-me
     go : List·Memᴰ y (listOf f n) ⊎ List·Memᴰ y (f n ∷ []) → (List·Memᴰ y (listOf f n) → (i : ℕ) × (i < n) × (y ≡ f i)) → (i : ℕ) × (i < suc n) × (y ≡ f i)
     go (inl k) ih = let r = ih k in (r .0, omega (arith, r .1), r .2)
     go (inr k) ih = (n, omega arith, List·Memᴰ·eq-of-singleton k)
-
-pub getD-mem : (l : List ℕ) (j : ℕ) → j < length l → List·Memᴰ (getD l j 0) l
-getD-mem [] j h = absurd (omega arith)
-getD-mem (x ∷ xs) zero h = List·Memᴰ·head refl
-getD-mem (x ∷ xs) (suc j) h = List·Memᴰ·tail (getD-mem xs j (omega arith))
 
 module _ {g : Graph} {limit s : ℕ} {w c : List ℕ} {D Q first last base tail : ℕ} (R : Traced g limit s w c D Q first last base tail) where
   -- a node of the order stands in the queue, and is reached

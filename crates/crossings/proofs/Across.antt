@@ -18,11 +18,12 @@ use Rattle.regions.proofs.Frames.{frame2-by}
 use Rattle.graph.specs.Edges.{Graph, entries, only}
 use Rattle.hops.specs.Hops.{unreached, dist, count}
 use Rattle.hops.proofs.Sums.{eq-or-ne, eqb-no}
+use Rattle.hops.proofs.Search.{getD-mem}
 use Rattle.predecessors.specs.Order.{order, predecessors, copies, enteredBy, entered}
 use Rattle.brandes.specs.Steps.{heldPredecessors}
 use Rattle.predecessors.specs.Tracks.{Traced}
 use Rattle.predecessors.proofs.Predecessors.{by-mem, entered-mem}
-use Rattle.brandes.proofs.Starts.{getD-mem, order-reached, order-in, entries-in, held-is, queue-is, entries-held, accumulate-pre}
+use Rattle.brandes.proofs.Starts.{order-reached, order-in, entries-in, held-is, queue-is, entries-held, accumulate-pre}
 use Rattle.pair_search.specs.Pairs.{HeldPairs}
 use Rattle.crossings.specs.Totals.{Totals, leaveBy}
 use Rattle.crossings.specs.Crossings.{leftAcross, AcrossPre}

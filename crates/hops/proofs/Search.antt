@@ -37,13 +37,13 @@ pub mem-getD : (l : List ℕ) (x : ℕ) → List·Memᴰ x l → (j : ℕ) × (j
 mem-getD l x (List·Memᴰ·head {x = y} {xs} e) = (0, omega arith, sym e)
 mem-getD l x (List·Memᴰ·tail {x = y} {xs} m) = let r = mem-getD xs x m in (suc (r .0), omega (arith, r .1), r .2)
 
-take-times : (k : ℕ) (l : List ℕ) (v : ℕ) → times v (take k l) ≤ times v l
+pub take-times : (k : ℕ) (l : List ℕ) (v : ℕ) → times v (take k l) ≤ times v l
 unfolding sumOver
 take-times zero l v = omega arith
 take-times (suc k) [] v = omega arith
 take-times (suc k) (x ∷ xs) v = omega (arith, take-times k xs v)
 
-take-mem : (k : ℕ) (l : List ℕ) (v : ℕ) → List·Memᴰ v (take k l) → List·Memᴰ v l
+pub take-mem : (k : ℕ) (l : List ℕ) (v : ℕ) → List·Memᴰ v (take k l) → List·Memᴰ v l
 take-mem zero l v m = elim m [ ]
 take-mem (suc k) [] v m = elim m [ ]
 take-mem (suc k) (x ∷ xs) v (List·Memᴰ·head e) = List·Memᴰ·head e

@@ -1,7 +1,7 @@
 -- A summed absolute change below some number leaves every entry finite: a sum of absolute values is no negative number. Assumes nothing.
-use mathlib.Core.Path.{_≡_, refl, sym, ap, _∙_}
+use mathlib.Core.Path.{_≡_, refl, ap, _∙_}
 use mathlib.Core.Logic.{⊎-elim}
-use mathlib.Core.Bool.{Bool, true, false, not, cond, true≢false}
+use mathlib.Core.Bool.{Bool, true, false, not, cond}
 use mathlib.Core.List.{List}
 use Prim.Native.Nat.{ℕ, zero, suc, _+_, _*_, _^_, _<_}
 use native.Mathlib.Omega.{arith}
@@ -14,11 +14,8 @@ use Rattle.regions.specs.Region.{zeroF}
 use Rattle.regions.proofs.Cases.{same-or-not}
 use Rattle.rounds.specs.Rounds.{after}
 use Rattle.rounds.specs.Vectors.{entry}
-use Rattle.rounds.proofs.Finite.{sum-finite}
+use Rattle.rounds.proofs.Finite.{never, sum-finite}
 use Rattle.links.specs.Links.{withChange, absoluteChange, settles}
-
-never : {A : Type 0} → false ≡ true → A
-never e = absurd (true≢false (sym e))
 
 -- ---- no minus sign
 abbrev unsigned : Float → Bool

@@ -15,7 +15,7 @@ use Rattle.regions.proofs.Parts.{over-at}
 use Rattle.answers.specs.declared.Answer.{Answer}
 use Rattle.answers.specs.declared.Settings.{Settings}
 use Rattle.answers.specs.declared.Rounds.{Rounds}
-use Rattle.answers.specs.Answers.{done, refusal, refuses, refusedWith}
+use Rattle.answers.specs.Answers.{done, refuses, refusedWith}
 use Rattle.graph.specs.Given.{Given}
 use Rattle.graph.specs.Left.{untouched, unlessRefused}
 use Rattle.lists.specs.Lists.{Share}
@@ -23,7 +23,7 @@ use Rattle.rounds.specs.Rounds.{after, Round, Out, outcome}
 use Rattle.rounds.specs.Ending.{reported, scored}
 use Rattle.rounds.specs.Vectors.{entry}
 use Rattle.rounds.proofs.Rounds.{settled-holds}
-use Rattle.rounds.proofs.Reader.{AllFinite}
+use Rattle.rounds.proofs.Reader.{AllFinite, no-values}
 use Rattle.links.specs.Links.{Links, gives, distributes, settles, divisorOf, dividedAt, divided}
 use Rattle.links.proofs.Changes.{settles-finite}
 
@@ -58,9 +58,6 @@ rounds-finite n tolerance next step limit start en em long begins =
     })
     (eqb n 0) limit start
     (λ none. record { long = begins; each = λ i l. let e : n ≡ 0 = eqb-true n 0 none in absurd (omega arith) })
-
-no-values : {Values : Type 0} {k : ℕ} {v : Values} → refusal k ≡ done v → ⊥
-no-values e = let z : _≡_ {A = ℕ} 0 1 = cc in omega arith
 
 -- DONE: r is the rounds' report, and the last vector stands in front of the results
 done-scored : (g : Given (List Float)) (settings : Settings) (o : Out (List Float)) (a : Answer) {r : Rounds} → unlessRefused g a (scored g settings o) .says ≡ done r

@@ -1,9 +1,9 @@
 -- A search stays what it is where only places behind its queue change. Assumes nothing.
 use mathlib.Core.Path.{_≡_, refl, sym, ap, ap₂, _∙_, subst}
 use mathlib.Core.List.{List, [], _∷_, _++_, List·Memᴰ, List·Memᴰ·head, List·Memᴰ·tail, Memᴰ·append-left, Memᴰ·append-right}
-use Prim.Native.Nat.{ℕ, zero, suc, _+_, _<_}
+use Prim.Native.Nat.{ℕ, _+_, _<_}
 use native.Mathlib.Omega.{arith}
-use lib.ListN.{length, getD, take}
+use lib.ListN.{length, getD}
 use Rattle.regions.specs.Region.{listOf}
 use Rattle.regions.proofs.Fronts.{list-same}
 use Rattle.graph.specs.Edges.{Graph, entries}
@@ -13,7 +13,7 @@ use Rattle.hops.specs.Search.{share, Sorted, has, Led, Comes, Ways, Mid, cells,
 use Rattle.hops.proofs.Sums.{sum-cong-mem}
 use Rattle.hops.proofs.Walks.{entry-lt}
 use Rattle.hops.proofs.Steps.{u-in}
-use Rattle.hops.proofs.Search.{space-after, tail-most}
+use Rattle.hops.proofs.Search.{take-mem, space-after, tail-most}
 
 sorted-same : (d d′ : ℕ → ℕ) (xs : List ℕ) → ((y : ℕ) → List·Memᴰ y xs → d′ y ≡ d y) → Sorted d xs → Sorted d′ xs
 sorted-same d d′ [] k o = tt
@@ -60,12 +60,6 @@ module _ {g : Graph} (ok : Valid g) {s : ℕ} (hs : s < g .nodes) {d c : ℕ →
         ways = λ v hv l. ways v hv (M .ways v hv (λ z. l (same-d v hv ∙ z)));
         no-ways = λ v hv z. M .no-ways v hv (sym (same-d v hv) ∙ z);
       }
-
-take-mem : (j : ℕ) (l : List ℕ) (y : ℕ) → List·Memᴰ y (take j l) → List·Memᴰ y l
-take-mem zero l y m = elim m [ ]
-take-mem (suc j) [] y m = m
-take-mem (suc j) (x ∷ xs) y (List·Memᴰ·head e) = List·Memᴰ·head e
-take-mem (suc j) (x ∷ xs) y (List·Memᴰ·tail m) = List·Memᴰ·tail (take-mem j xs y m)
 
 -- the queue is as it was
 pub queue-same : (w w′ : List ℕ) (Q n : ℕ) → ((i : ℕ) → i < Q + n → getD w′ i 0 ≡ getD w i 0) → listOf (cells w′ Q) n ≡ listOf (cells w Q) n

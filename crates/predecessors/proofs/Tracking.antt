@@ -20,6 +20,7 @@ use Rattle.hops.specs.Search.{has, cells, Search, TooMany, Kept, Touched, Found
 use Rattle.hops.proofs.Sums.{eq-or-ne, sum-append}
 use Rattle.hops.proofs.Steps.{has-yes, has-no, has-le}
 use Rattle.hops.proofs.Partial.{label-dist}
+use Rattle.hops.proofs.Search.{take-times}
 use Rattle.hops.proofs.Search as search
 use Rattle.predecessors.specs.Order.{joined, entriesOf}
 use Rattle.predecessors.specs.Tracks.{leading, soFar, Slots, Holding, Ordered, Tracked, pushed, PushPre, EnterPre, EnterPost}
@@ -92,12 +93,6 @@ module _ {g : Graph} {limit s : ℕ} {w c : List ℕ} {D Q first last base head 
   -- no node has more predecessor entries than places, of those seen
   pub most : (seen : List ℕ) → ((v : ℕ) → times v seen ≤ times v (entries g u)) → (x : ℕ) → length (soFar g (dist g s) (take head (listOf (cells w Q) tail)) u seen x) ≤ leading g x
   most seen part x = so-most g (dist g s) (take head (listOf (cells w Q) tail)) u seen x (part x) done-in done-once
-
-take-times : (j : ℕ) (l : List ℕ) (v : ℕ) → times v (take j l) ≤ times v l
-unfolding sumOver
-take-times zero l v = omega arith
-take-times (suc j) [] v = omega arith
-take-times (suc j) (x ∷ xs) v = omega (arith, take-times j xs v)
 
 -- ---- one entry
 

@@ -14,7 +14,8 @@ use Rattle.roots.proofs.Finite.{root-less}
 use Rattle.rounds.specs.Rounds.{after}
 use Rattle.rounds.specs.Vectors.{entry, squared, withChange, squaredChange, settles}
 
-never : {A : Type 0} → false ≡ true → A
+-- nothing is both false and true
+pub never : {A : Type 0} → false ≡ true → A
 never e = absurd (true≢false (sym e))
 
 infinite-sum : (s t : Bool) → finite (cond (Bool·beq s t) (inf s) nan) ≡ true → ⊥

@@ -27,7 +27,8 @@ pub record AllFinite (n : ℕ) (x : List Float) : Type 0 where
   pub long : length x ≡ n
   pub each : (i : ℕ) → i < n → finite (entry x i) ≡ true
 
-no-values : {Values : Type 0} {k : ℕ} {v : Values} → refusal k ≡ done v → ⊥
+-- a refusal brings no values
+pub no-values : {Values : Type 0} {k : ℕ} {v : Values} → refusal k ≡ done v → ⊥
 no-values e = let z : _≡_ {A = ℕ} 0 1 = cc in omega arith
 
 -- DONE: nothing refused
