@@ -27,6 +27,7 @@ pairTally fs ts many w = foldl plusOne w (inTurn (take many fs) (take many ts))
 abbrev pub pairsFrom : List ℕ → List ℕ → ℕ → ℕ → List Float → List Float
 pairsFrom fs ts first end w = pairTally (drop first fs) (drop first ts) (end - first) w
 
+-- what a walk over the first `many` ends asks: there are so many, and each has a score
 pub record TallyPre (ends : List ℕ) (many : ℕ) (w : List Float) : Type 0 where
   pub some : many ≤ length ends
   pub inside : (i : ℕ) → i < many → getD ends i 0 < length w
