@@ -1,5 +1,6 @@
 // Replays the Rust's answers to job texts. Standard input is a list of records, whose format tests/differential/driver/list.rs
 // describes: a text and its answer, which is held byte for byte to what `job::run` writes.
+use job::OUTPUT;
 use libc::STDIN_FILENO;
 use libc::STDOUT_FILENO;
 use ran::Ran;
@@ -100,7 +101,7 @@ impl Tally {
 
 // Whether the program answers a text so.
 fn is_told(asked: &[u8], told: &[u8]) -> bool {
-    let mut output = [0u8; 32768];
+    let mut output = [0u8; OUTPUT];
     match job::run(asked, &mut output) {
         Ran::Written(n) => text::is_word(told, records::part(&output, 0, n)),
         Ran::Refused(_) => false,

@@ -2,6 +2,8 @@
 //
 // Bytes past the limit's first one cannot change the answer and are not read. A read that fails leaves standard output empty,
 // a write that fails leaves it short; either writes one line to standard error.
+use job::INPUT;
+use job::OUTPUT;
 use libc::STDERR_FILENO;
 use libc::STDIN_FILENO;
 use libc::STDOUT_FILENO;
@@ -17,7 +19,7 @@ enum Got {
 }
 
 fn main() {
-    let mut input = [0u8; 49153];
+    let mut input = [0u8; INPUT + 1];
     match read_input(&mut input) {
         Got::Bytes(n) => answer(&input[..n]),
         Got::Failed => {
@@ -47,7 +49,7 @@ fn read_input(input: &mut [u8]) -> Got
 
 // Writes the answer of a job text.
 fn answer(input: &[u8]) {
-    let mut output = [0u8; 32768];
+    let mut output = [0u8; OUTPUT];
     match job::run(input, &mut output) {
         Ran::Written(n) => {
             if io::write_all(STDOUT_FILENO, &output[..n]) {
