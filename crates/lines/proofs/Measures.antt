@@ -1,6 +1,6 @@
 -- Laws of the measures by name, one after the other.
 -- Assumes nothing.
-use mathlib.Core.Path.{_≡_, refl, sym, ap, _∙_}
+use mathlib.Core.Path.{_≡_, sym, ap}
 use mathlib.Core.Bool.{true, false}
 use mathlib.Core.List.{List}
 use Prim.Native.Nat.{ℕ, _+_, _<_, _≤_}
@@ -13,7 +13,6 @@ use mathlib.Core.Logic.{⊎-elim}
 use Rattle.text.specs.Text.{isWord}
 use Rattle.lines.specs.declared.Measure.{Measure}
 use Rattle.lines.specs.declared.Measure.the-variants.{Betweenness, Pagerank, Personalized, Eigenvector, Katz, Reaching, Voterank, Laplacian, Degree}
-use Rattle.lines.specs.declared.Named.{Named}
 use Rattle.lines.specs.declared.Named.the-variants.{Measured, Unknown}
 use Rattle.lines.specs.Names.{measures, nameOf, firstNamed}
 

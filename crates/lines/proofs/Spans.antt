@@ -1,29 +1,27 @@
 -- Laws of a line's end, its value and the commas in it.
 -- Assumes nothing.
-use mathlib.Core.Path.{_≡_, refl, sym, ap, _∙_}
+use mathlib.Core.Path.{_≡_, refl, ap, _∙_}
 use mathlib.Core.Bool.{Bool, true, false, cond}
-use mathlib.Core.List.{List, [], _∷_}
-use Prim.Native.Nat.{ℕ, zero, suc, _+_, _-_, _<_, _≤_, min}
+use mathlib.Core.List.{List}
+use Prim.Native.Nat.{ℕ, _+_, _-_, _<_, _≤_}
 use native.Mathlib.Omega.{arith}
-use lib.ListN.{length, getD, take, drop, length-take, length-drop}
+use lib.ListN.{length, take, drop, length-take, length-drop}
 use lib.Seq.{take-all}
 use lib.Dec.{ltb}
 use borrow.Author.Tests.{lt-ltb, le-ltb, ltb-true}
-use Rattle.text.specs.Text.{starts, placeOf}
+use Rattle.text.specs.Text.{starts}
 use Rattle.text.specs.declared.Number.{Number}
 use Rattle.text.specs.declared.Number.the-variants.{Is, Fault}
 use Rattle.text.proofs.Words.{place-le, starts-le}
 use Rattle.lines.specs.declared.Span.{Span}
 use Rattle.lines.specs.declared.Span.the-variants.{Of, Fault}
-use Rattle.lines.specs.declared.Line.{Line}
 use Rattle.lines.specs.declared.Line.the-variants.{Value, Fault}
 use Rattle.lines.specs.declared.Measure.{Measure}
 use Rattle.lines.specs.declared.Named.{Named}
 use Rattle.lines.specs.declared.Named.the-variants.{Measured, Unknown}
-use Rattle.lines.specs.declared.MeasureLine.{MeasureLine}
 use Rattle.lines.specs.declared.MeasureLine.the-variants.{Value, Fault}
 use Rattle.lines.specs.Names.{measureOf}
-use Rattle.lines.specs.Lines.{partOf, endOf, commaOf, spanTo, spanOf, lineTo, lineIn, measureTo, measureIn}
+use Rattle.lines.specs.Lines.{partOf, endOf, commaOf, spanOf, lineTo, lineIn, measureTo, measureIn}
 
 pub rest : (s : List ℕ) (at : ℕ) → take (length s - at) (drop at s) ≡ drop at s
 rest s at = take-all (length s - at) (drop at s) (omega (arith, length-drop at s))

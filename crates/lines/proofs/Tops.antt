@@ -1,6 +1,6 @@
 -- Which of the six lines can be faulty.
 -- Assumes nothing.
-use mathlib.Core.Path.{_≡_, refl, sym, ap, _∙_}
+use mathlib.Core.Path.{_≡_}
 use mathlib.Core.List.{List}
 use Prim.Native.Nat.{ℕ, _<_}
 use native.Mathlib.Omega.{arith}
@@ -11,7 +11,7 @@ use Rattle.lines.specs.declared.Line.{Line}
 use Rattle.lines.specs.declared.Line.the-variants.{Value, Fault}
 use Rattle.lines.specs.declared.Most.{Most}
 use Rattle.lines.specs.declared.TopRead.{TopRead}
-use Rattle.lines.specs.declared.TopRead.the-variants.{Read, Fault}
+use Rattle.lines.specs.declared.TopRead.the-variants.{Fault}
 
 then-below : (line : Line) (k : ℕ) (go : ℕ → ℕ → TopRead) {j : ℕ} → k < 6 → ((v next : ℕ) → go v next ≡ Fault j → j < 6) → lineThen line k go ≡ Fault j → j < 6
 then-below (Value v next) k go h f e = f v next e

@@ -1,8 +1,8 @@
 -- What a line of a text says. A line is known by the place where it begins; it ends in a newline.
 -- Definitions only. Document 01, "The command program".
-use Prim.Native.Nat.{ℕ, suc, _+_, _-_}
-use mathlib.Core.Bool.{Bool, true, false, cond}
-use mathlib.Core.List.{List, [], _∷_}
+use Prim.Native.Nat.{ℕ, _+_, _-_}
+use mathlib.Core.Bool.{cond}
+use mathlib.Core.List.{List}
 use lib.ListN.{length, take, drop}
 use lib.Dec.{ltb, leb}
 use Rattle.text.specs.Bytes.{bytes}
@@ -13,7 +13,6 @@ use Rattle.lines.specs.declared.Span.{Span}
 use Rattle.lines.specs.declared.Span.the-variants.{Of, Fault}
 use Rattle.lines.specs.declared.Line.{Line}
 use Rattle.lines.specs.declared.Line.the-variants.{Value, Fault}
-use Rattle.lines.specs.declared.Measure.{Measure}
 use Rattle.lines.specs.declared.Named.{Named}
 use Rattle.lines.specs.declared.Named.the-variants.{Measured, Unknown}
 use Rattle.lines.specs.declared.MeasureLine.{MeasureLine}

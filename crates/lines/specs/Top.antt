@@ -8,7 +8,6 @@ use Rattle.lines.specs.Lines.{kindLine, decimalLine, bitsLine, atMost}
 use Rattle.lines.specs.declared.Line.{Line}
 use Rattle.lines.specs.declared.Line.the-variants.{Value, Fault}
 use Rattle.lines.specs.declared.Most.{Most}
-use Rattle.lines.specs.declared.Top.{Top}
 use Rattle.lines.specs.declared.TopRead.{TopRead}
 use Rattle.lines.specs.declared.TopRead.the-variants.{Read, Fault}
 

@@ -1,7 +1,7 @@
 -- The job text of document 01, by computation of the definitions; and texts with a fault, each with the line that decides.
 -- Assumes nothing.
 use mathlib.Core.Path.{_≡_, refl}
-use mathlib.Core.Bool.{true, false}
+use mathlib.Core.Bool.{false}
 use mathlib.Core.List.{List, [], _∷_, _++_}
 use Prim.Native.Nat.{ℕ}
 use Rattle.text.specs.Bytes.{bytes}
@@ -11,7 +11,6 @@ use Rattle.lines.specs.Lines.{spanOf, edgeFrom, edgeLine}
 use Rattle.lines.specs.Top.{topOf}
 use Rattle.lines.specs.declared.Measure.the-variants.{Betweenness}
 use Rattle.reader.specs.Edges.{edgesFrom}
-use Rattle.reader.specs.declared.Job.{Job}
 use Rattle.reader.specs.declared.Job.the-variants.{Asked, Fault}
 use Rattle.reader.specs.Job.{headOf, jobOf, edgesOf}
 

@@ -1,6 +1,6 @@
 -- Laws of a job by its head.
 -- Assumes nothing.
-use mathlib.Core.Path.{_≡_, refl, sym, ap, _∙_}
+use mathlib.Core.Path.{_≡_, refl, ap, _∙_}
 use mathlib.Core.List.{List, []}
 use Prim.Native.Nat.{ℕ, _+_}
 use lib.Dec.{eqb}
@@ -13,8 +13,7 @@ use Rattle.reader.specs.Job.{headOf}
 use Rattle.reader.specs.declared.Head.{Head}
 use Rattle.reader.specs.declared.HeadRead.{HeadRead}
 use Rattle.reader.specs.declared.HeadRead.the-variants.{Read, Fault}
-use Rattle.reader.specs.Edges.{Edges, edgesFrom}
-use Rattle.reader.specs.declared.Job.{Job}
+use Rattle.reader.specs.Edges.{edgesFrom}
 use Rattle.reader.specs.declared.Job.the-variants.{Asked, Fault}
 use Rattle.text.specs.Bytes.{bytes}
 use Rattle.lines.specs.declared.Measure.{Measure}

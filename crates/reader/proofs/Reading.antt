@@ -1,9 +1,8 @@
 -- The edges read so far, and what is left to read: storing the edges that are left gives what the definition says of all.
 -- Assumes nothing.
 use mathlib.Core.Path.{_≡_, refl, sym, ap, _∙_}
-use mathlib.Core.Bool.{cond}
 use mathlib.Core.List.{List, [], _∷_, map}
-use Prim.Native.Nat.{ℕ, zero, suc, _+_, _-_, _<_, _≤_, min}
+use Prim.Native.Nat.{ℕ, _+_, _-_, _<_, _≤_, min}
 use native.Mathlib.Omega.{arith}
 use native.Mathlib.Numerals.{add-one}
 use lib.ListN.{length, set, length-set}
@@ -14,7 +13,7 @@ use Rattle.lines.specs.Lines.{edgeLine}
 use Rattle.lines.specs.declared.EdgeLine.{EdgeLine}
 use Rattle.lines.specs.declared.EdgeLine.the-variants.{Edge, Fault}
 use Rattle.lines.proofs.Edges.{edge-next}
-use Rattle.reader.specs.Edges.{Given, Edges, lineOf, edgeThen, edgesFrom, fromOf, toOf, bitsOf, Stored}
+use Rattle.reader.specs.Edges.{Edges, lineOf, edgeThen, edgesFrom, fromOf, toOf, bitsOf, Stored}
 
 -- one line more, a faulty line, and the end
 more : (s : List ℕ) (m n k at : ℕ) → m ≡ n + 1 → edgesFrom s m k at ≡ edgeThen (edgeLine s at) (lineOf k) (λ next. edgesFrom s n (k + 1) next)

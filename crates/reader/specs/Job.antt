@@ -18,7 +18,6 @@ use Rattle.lines.specs.Lines.{measureLine, decimalLine}
 use Rattle.lines.specs.Top.{topOf}
 use Rattle.reader.specs.Rules.{mostOf}
 use Rattle.reader.specs.Edges.{Edges, edgesFrom, Stored}
-use Rattle.reader.specs.declared.Head.{Head}
 use Rattle.reader.specs.declared.HeadRead.{HeadRead}
 use Rattle.reader.specs.declared.HeadRead.the-variants.{Read, Fault}
 use Rattle.reader.specs.declared.Job.{Job}

@@ -1,9 +1,8 @@
 -- The answer of document 01, by computation of the definitions.
 -- Assumes nothing.
 use mathlib.Core.Path.{_≡_, refl}
-use mathlib.Core.List.{List, [], _∷_, _++_}
-use Prim.Native.Nat.{ℕ}
-use lib.Ieee.{Float, nan, binary64, ofBits, ofFields, toBits, odd, size}
+use mathlib.Core.List.{[], _∷_}
+use lib.Ieee.{nan, binary64, ofBits, ofFields, toBits, odd, size}
 use Rattle.text.specs.Bytes.{bytes}
 use Rattle.text.specs.Written.{digitsText, countIn}
 use Rattle.lines.specs.declared.Measure.the-variants.{Betweenness}

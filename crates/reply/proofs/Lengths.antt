@@ -1,16 +1,13 @@
 -- How long the texts are: the room that an answer needs at most.
 -- Assumes nothing.
-use mathlib.Core.Path.{_≡_, refl, sym, ap, _∙_}
+use mathlib.Core.Path.{_≡_}
 use mathlib.Core.List.{List, [], _∷_, _++_}
-use Prim.Native.Nat.{ℕ, zero, suc, _+_, _*_, _/_, _≤_}
-use native.Mathlib.Numerals.{add-one}
+use Prim.Native.Nat.{ℕ, _+_, _*_, _≤_}
 use native.Mathlib.Omega.{arith}
-use mathlib.Core.Bool.{Bool, true, false, cond}
 use lib.ListN.{length, length-append}
-use lib.Dec.{ltb}
 use lib.Ieee.{Float, binary64, toBits}
 use Rattle.text.specs.Bytes.{bytes}
-use Rattle.text.specs.Written.{digitsText, countIn, decimalText, bitsText}
+use Rattle.text.specs.Written.{countIn, decimalText, bitsText}
 use Rattle.text.proofs.Numerals.{digits-long, count-long}
 use Rattle.lines.specs.declared.Measure.{Measure}
 use Rattle.lines.specs.declared.Measure.the-variants.{Voterank}

@@ -1,10 +1,10 @@
 -- Which bit patterns are a NaN's, and the one that a NaN is written as.
 -- Assumes nothing.
-use mathlib.Core.Path.{_≡_, refl, sym, ap, subst, _∙_}
-use mathlib.Core.Bool.{Bool, true, false, cond, not, _&&_, true≢false}
-use Prim.Native.Nat.{ℕ, zero, suc, _+_, _-_, _*_, _/_, _%_, _^_, _<_, _≤_}
+use mathlib.Core.Path.{_≡_, refl, sym, subst}
+use mathlib.Core.Bool.{Bool, true, false, not, _&&_, true≢false}
+use Prim.Native.Nat.{ℕ, _-_, _/_, _%_, _<_, _≤_}
 use native.Mathlib.Omega.{arith}
-use lib.Dec.{T, ltb, leb, eqb}
+use lib.Dec.{T, leb, eqb}
 use lib.Ieee.{Float, nan, inf, fin, binary64, ne, isNan, ofBits, toBits, ofFields, nanBits}
 use lib.Ieee.Compare.{differs-from-itself}
 use borrow.Author.Tests.{eq-eqb, ne-eqb, eqb-true}

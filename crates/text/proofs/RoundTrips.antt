@@ -11,8 +11,7 @@ use native.Mathlib.Numerals.{add-one}
 use lib.ListN.{length, getD, List·getD-append}
 use lib.Dec.{ltb}
 use borrow.Author.Tests.{lt-ltb, le-ltb, ltb-true, ltb-false, eq-eqb}
-use Rattle.text.specs.declared.Number.{Number}
-use Rattle.text.specs.declared.Number.the-variants.{Is, Fault}
+use Rattle.text.specs.declared.Number.the-variants.{Is}
 use Rattle.text.specs.Text.{digitOf, digitsFrom, decimalOf, bitsOf}
 use Rattle.text.specs.Written.{digitByte, digitsText, countIn, decimalText, bitsText}
 use Rattle.text.proofs.Numbers.{is-decimal, is-letter, plain, nought}

@@ -1,6 +1,5 @@
 -- `lines::at_most` meets its contract. Assumes nothing.
 use borrow.Author.Tests.{le-leb, lt-leb}
-use mathlib.Core.Path.{_≡_, refl, sym, ap, _∙_}
 use borrow.Author.Needs.{needs}
 use Rattle.lines.proofs.at_most.Statement.{statement}
 use Rattle.lines.proofs.at_most.Tie as tie

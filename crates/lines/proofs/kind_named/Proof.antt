@@ -1,5 +1,5 @@
 -- `lines::kind_named` meets its contract. Assumes nothing.
-use mathlib.Core.Path.{_≡_, refl, sym, ap, _∙_}
+use mathlib.Core.Path.{sym, _∙_}
 use Rattle.lines.specs.Names.{kindOf}
 use borrow.Author.Needs.{needs}
 use Rattle.lines.proofs.kind_named.Statement.{statement}

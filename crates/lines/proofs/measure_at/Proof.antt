@@ -1,5 +1,5 @@
 -- `lines::measure_at` meets its contract. Assumes nothing.
-use mathlib.Core.Path.{_≡_, refl, sym, ap, _∙_}
+use mathlib.Core.Path.{sym}
 use Rattle.lines.proofs.Measures.{the-last, none-of}
 use borrow.Author.Needs.{needs}
 use Rattle.lines.proofs.measure_at.Statement.{statement}

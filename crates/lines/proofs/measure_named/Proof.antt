@@ -1,13 +1,11 @@
 -- `lines::measure_named` meets its contract. Assumes nothing.
 use mathlib.Core.Path.{_≡_, refl, sym, ap, _∙_}
-use mathlib.Core.List.{List}
-use Prim.Native.Nat.{ℕ, _-_, _≤_}
+use Prim.Native.Nat.{_-_, _≤_}
 use native.Mathlib.Omega.{arith}
 use lib.ListN.{drop}
 use Rattle.text.specs.Text.{isWord}
 use Rattle.lines.specs.declared.Measure.{Measure}
-use Rattle.lines.specs.declared.Named.{Named}
-use Rattle.lines.specs.declared.Named.the-variants.{Measured, Unknown}
+use Rattle.lines.specs.declared.Named.the-variants.{Measured}
 use Rattle.lines.specs.Names.{measures, nameOf, firstNamed}
 use Rattle.lines.proofs.Measures.{this-name, another-name, no-name-left}
 use borrow.Author.Needs.{needs}

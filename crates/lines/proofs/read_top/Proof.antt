@@ -1,5 +1,5 @@
 -- `lines::read_top` meets its contract. Assumes nothing.
-use mathlib.Core.Path.{_≡_, refl, sym, ap, _∙_}
+use mathlib.Core.Path.{sym, _∙_}
 use Rattle.lines.specs.Top.{topOf}
 use borrow.Author.Needs.{needs}
 use Rattle.lines.proofs.read_top.Statement.{statement}

@@ -1,5 +1,5 @@
 -- `reader::most_of` meets its contract. Assumes nothing.
-use mathlib.Core.Path.{_≡_, refl, sym, ap, _∙_}
+use mathlib.Core.Path.{sym, ap, _∙_}
 use Rattle.reader.specs.Rules.{mostOf}
 use borrow.Author.Needs.{needs}
 use Rattle.reader.proofs.most_of.Statement.{statement}

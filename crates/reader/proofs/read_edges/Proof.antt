@@ -1,9 +1,8 @@
 -- `reader::read_edges` meets its contract. Assumes nothing.
-use mathlib.Core.Path.{_≡_, refl, sym, ap, _∙_}
-use Prim.Native.Nat.{ℕ, _≤_, _<_, _-_, _+_}
+use mathlib.Core.Path.{sym, _∙_}
+use Prim.Native.Nat.{_-_}
 use native.Mathlib.Omega.{arith}
 use lib.ListN.{length}
-use Rattle.lines.specs.Lines.{edgeLine}
 use Rattle.reader.proofs.Reading.{Going, none, step, faulty, line-more, done}
 use borrow.Author.Needs.{needs}
 use Rattle.reader.proofs.read_edges.Statement.{statement}

@@ -1,5 +1,5 @@
 -- `reader::read_head` meets its contract. Assumes nothing.
-use mathlib.Core.Path.{_≡_, refl, sym, ap, _∙_}
+use mathlib.Core.Path.{sym, _∙_}
 use native.Mathlib.Omega.{arith}
 use Rattle.lines.proofs.Tops.{fault-below}
 use Rattle.reader.proofs.Jobs.{no-measure, no-top, no-count, a-head}

@@ -1,5 +1,5 @@
 -- `reader::read_job` meets its contract. Assumes nothing.
-use mathlib.Core.Path.{_≡_, refl, sym, ap, _∙_}
+use mathlib.Core.Path.{refl, sym, _∙_}
 use Rattle.reader.proofs.Jobs.{no-head, no-edges, edges-are, asked, edge-fault}
 use borrow.Author.Needs.{needs}
 use Rattle.reader.proofs.read_job.Statement.{statement}

@@ -1,8 +1,7 @@
 -- `reader::store_end` meets its contract. Assumes nothing.
-use mathlib.Core.Path.{_≡_, refl, sym, ap, _∙_}
+use mathlib.Core.Path.{_≡_, sym}
 use native.Mathlib.Omega.{arith}
-use Prim.Native.Nat.{ℕ, _<_, _≤_, min}
-use lib.ListN.{set}
+use Prim.Native.Nat.{min}
 use lib.Seq.{set-out}
 use borrow.Author.Needs.{needs}
 use Rattle.reader.proofs.store_end.Statement.{statement}

@@ -1,6 +1,5 @@
 -- `reader::store_weight` meets its contract. Assumes nothing.
-use mathlib.Core.Path.{_≡_, refl, sym, ap, _∙_}
-use lib.ListN.{set}
+use mathlib.Core.Path.{sym}
 use lib.Seq.{set-out}
 use lib.Ieee.{binary64, ofBits}
 use borrow.Author.Needs.{needs}

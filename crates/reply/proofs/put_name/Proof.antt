@@ -1,11 +1,8 @@
 -- `reply::put_name` meets its contract. Assumes nothing.
-use mathlib.Core.Path.{_≡_, refl, sym, ap, _∙_}
-use mathlib.Core.List.{List}
-use Prim.Native.Nat.{ℕ}
+use mathlib.Core.Path.{sym, ap}
 use native.Mathlib.Omega.{arith}
 use lib.ListN.{length}
 use lib.Seq.{length-take-le}
-use Rattle.text.specs.Written.{Written}
 use Rattle.lines.proofs.Measures.{name-long}
 use borrow.Author.Needs.{needs}
 use Rattle.reply.proofs.put_name.Statement.{statement}

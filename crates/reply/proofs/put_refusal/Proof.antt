@@ -1,5 +1,4 @@
 -- `reply::put_refusal` meets its contract. Assumes nothing.
-use native.Mathlib.Omega.{arith}
 use Rattle.text.proofs.Stores.{and-then}
 use borrow.Author.Needs.{needs}
 use Rattle.reply.proofs.put_refusal.Statement.{statement}

@@ -1,10 +1,5 @@
 -- `reply::put_settled` meets its contract. Assumes nothing.
-use mathlib.Core.Path.{_≡_, refl, sym, ap, _∙_}
 use native.Mathlib.Omega.{arith}
-use mathlib.Core.List.{List}
-use Prim.Native.Nat.{ℕ}
-use Rattle.text.specs.Written.{Written}
-use Rattle.reply.specs.Reply.{settledText}
 use borrow.Author.Needs.{needs}
 use Rattle.reply.proofs.put_settled.Statement.{statement}
 use Rattle.reply.proofs.put_settled.Tie as tie

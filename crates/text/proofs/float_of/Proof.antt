@@ -1,7 +1,6 @@
 -- `text::float_of` meets its contract. Assumes nothing.
 use lib.Ieee.{nan, div, binary64, ofBits, ofFields}
-use mathlib.Core.Path.{_≡_, refl, sym, ap, _∙_}
-use native.Mathlib.Omega.{arith}
+use mathlib.Core.Path.{_≡_, refl, sym, _∙_}
 use Rattle.text.proofs.Patterns.{nan-pattern, number-pattern}
 use borrow.Author.Needs.{needs}
 use Rattle.text.proofs.float_of.Statement.{statement}

@@ -1,6 +1,5 @@
 -- `text::put_decimal` meets its contract. Assumes nothing.
-use mathlib.Core.Path.{_≡_, refl, sym, ap, _∙_}
-use Prim.Native.Nat.{ℕ, _≤_, _<_, _-_, _+_}
+use Prim.Native.Nat.{_-_}
 use native.Mathlib.Omega.{arith}
 use Rattle.text.specs.Written.{countIn}
 use Rattle.text.proofs.Numerals.{digits-long}
