@@ -9,13 +9,13 @@ use native.Mathlib.Omega.{arith}
 use borrow.Author.Tests.{eqb-true, eqb-false}
 use lib.Dec.{eqb}
 use lib.IntN.{pos}
-use lib.ListN.{length, getD, set, take, length-set}
+use lib.ListN.{length, getD, set, take}
 use lib.Seq.{take-suc, take-length}
 use lib.Ieee.{Float, binary64, nan, add, ofInt}
 use Rattle.regions.specs.Doubles.{one}
 use Rattle.regions.specs.Region.{Front, zeroF, cleared}
 use Rattle.regions.proofs.Cases.{bool-cases}
-use Rattle.regions.proofs.Fronts.{front-none, front-set, front-then, hitD, missD, cleared-at, cleared-frontD}
+use Rattle.regions.proofs.Fronts.{front-set, hitD, missD, cleared-at, cleared-frontD}
 use Rattle.graph.specs.Edges.{edgesFrom, oneIf}
 use Rattle.graph.specs.Pres.{Sized}
 use Rattle.degree.specs.Degree.{endCount}

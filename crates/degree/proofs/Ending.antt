@@ -1,16 +1,15 @@
 -- How a degree call ends: what its steps leave is the outcome. Assumes nothing.
 use mathlib.Core.Path.{_≡_, refl, sym, ap, _∙_}
 use mathlib.Core.Bool.{Bool, true, false, not, _&&_, cond}
-use mathlib.Core.List.{List, [], _∷_, foldl}
-use Prim.Native.Nat.{ℕ, _+_, _-_, _^_, _≤_, _<_}
+use mathlib.Core.List.{List, [], foldl}
+use Prim.Native.Nat.{ℕ, _+_, _-_, _≤_, _<_}
 use native.Mathlib.Omega.{arith}
 use borrow.Author.Tests.{ltb-false}
 use lib.Dec.{ltb}
 use lib.IntN.{pos}
 use lib.ListN.{length, getD, take}
-use lib.Seq.{getD-take}
 use lib.Ieee.{Float, binary64, nan, ofInt}
-use Rattle.regions.specs.Region.{over, listOf, cleared, zeroF, Front}
+use Rattle.regions.specs.Region.{over, listOf, cleared, zeroF}
 use Rattle.regions.proofs.Fronts.{list-long, cleared-none}
 use Rattle.regions.proofs.Parts.{list-at, over-is}
 use Rattle.answers.specs.Answers.{done}
@@ -46,11 +45,7 @@ whole-many : (p : Bool) (m : ℕ) → cond p m 0 ≤ m
 whole-many true m = omega arith
 whole-many false m = omega arith
 
--- how many edges are walked for both ends, for their froms alone and for their tos alone
-pairs-many : (p q : Bool) (m a b : ℕ) → a ≡ cond q m 0 → b ≡ cond p a 0 → b ≡ cond (p && q) m 0
-pairs-many true q m a b ea eb = eb ∙ ea
-pairs-many false q m a b ea eb = eb
-
+-- how many edges are walked for their froms alone, and for their tos alone
 alone-many : (p q : Bool) (m a b k : ℕ) → a ≡ cond p m 0 → b ≡ cond (p && q) m 0 → k ≡ a - b → k ≡ cond (p && not q) m 0
 alone-many true true m a b k ea eb ek = omega arith
 alone-many true false m a b k ea eb ek = omega arith
@@ -204,7 +199,8 @@ module _ (froms tos : Bool) (g : Given (List Float)) (ok : Passed (tests g)) whe
 
 -- the numbers of edges walked, as the code works them out
 pub walked-both : (froms tos : Bool) (m c1 k : ℕ) → c1 ≡ cond tos m 0 → k ≡ cond froms c1 0 → k ≡ cond (froms && tos) m 0
-walked-both froms tos m c1 k e1 ek = pairs-many froms tos m c1 k e1 ek
+walked-both true tos m c1 k e1 ek = ek ∙ e1
+walked-both false tos m c1 k e1 ek = ek
 
 pub walked-from : (froms tos : Bool) (m c2 k : ℕ) → c2 ≡ cond froms m 0 → k ≡ cond (froms && tos) m 0 → c2 - k ≡ cond (froms && not tos) m 0
 walked-from froms tos m c2 k e ek = alone-many froms tos m c2 k (c2 - k) e ek refl

@@ -1,10 +1,10 @@
 -- Adding 1.0 to a whole number up to 2^53 gives the next whole number, unrounded. Assumes nothing.
-use mathlib.Core.Path.{_≡_, refl, sym, ap, _∙_}
+use mathlib.Core.Path.{_≡_, refl, ap, _∙_}
 use mathlib.Core.Bool.{false, true, true≢false}
 use Prim.Native.Nat.{ℕ, _+_, _*_, _^_, _≤_}
 use native.Mathlib.Omega.{arith}
 use lib.IntN.{pos}
-use lib.Ieee.{Float, Format, binary64, fin, inf, nan, prec, up, down, round, sum, add, ofInt, ofBits}
+use lib.Ieee.{Float, Format, binary64, fin, inf, nan, up, down, round, sum, add, ofInt, ofBits}
 use lib.Ieee.Exact.{HasValue}
 use lib.Ieee.Back.{round-whole}
 use lib.Ieee.Fits.{down-pos}

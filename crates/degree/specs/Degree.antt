@@ -3,9 +3,9 @@ use mathlib.Core.Bool.{Bool, true, false, not, _&&_}
 use mathlib.Core.List.{List, [], _∷_}
 use Prim.Native.Nat.{ℕ, _+_}
 use lib.Dec.{eqb, ltb}
-use lib.IntN.{pos}
 use lib.ListN.{length}
-use lib.Ieee.{Float, binary64, ofInt}
+use lib.Ieee.{Float}
+use Rattle.regions.specs.Doubles.{double}
 use Rattle.regions.specs.Region.{over, listOf}
 use Rattle.answers.specs.Answers.{Said, done}
 use Rattle.graph.specs.Edges.{Edge, oneIf}
@@ -21,7 +21,7 @@ endCount froms tos (e ∷ es) v = oneIf (froms && eqb (e .from) v) + oneIf (tos 
 
 -- that number as a double: it is at most twice 32,768, so nothing is rounded
 abbrev pub endScore : Bool → Bool → List Edge → ℕ → Float
-endScore froms tos es v = ofInt binary64 (pos (endCount froms tos es v))
+endScore froms tos es v = double (endCount froms tos es v)
 
 -- the n scores of a graph
 unfoldable pub endScores : {R : Type 0} → Bool → Bool → Given R → List Float
