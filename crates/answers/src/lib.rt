@@ -1,10 +1,11 @@
 // The numbered answers, what calls return, and the settings of the iterative measures.
+#![tactic(auto)]
 ghost use Rattle.std.specs.Prelude.{◌≡◌};
 ghost use Rattle.answers.specs.Answers.{number_of, number_said, refuses, said_plain, said_ended, said_elected};
 ghost use Rattle.answers.specs.Settings.{usual_settings};
 
 // Document 01's answers, in the order of their numbers.
-#[derive(Drop)]
+#[derive(Clone, Copy)]
 pub enum Answer {
     Done,
     Empty,
@@ -22,13 +23,13 @@ pub enum Answer {
 }
 
 // Why a call did not answer DONE.
-#[derive(Drop)]
+#[derive(Clone, Copy)]
 pub struct Refusal {
     pub answer: Answer,
 }
 
 // What the four iterative measures are asked: for Katz the damping is alpha.
-#[derive(Drop)]
+#[derive(Clone, Copy)]
 pub struct Settings {
     pub damping: f64,
     pub tolerance: f64,
@@ -36,7 +37,7 @@ pub struct Settings {
 }
 
 // Where the rounds of an iterative measure ended.
-#[derive(Drop)]
+#[derive(Clone, Copy)]
 pub struct Rounds {
     pub settings: Settings,
     pub rounds: u64,
@@ -44,21 +45,21 @@ pub struct Rounds {
 }
 
 // What a call returns that has no values of its own.
-#[derive(Drop)]
+#[derive(Clone, Copy)]
 pub enum Plain {
     Done,
     Refused(Refusal),
 }
 
 // What an iterative call returns.
-#[derive(Drop)]
+#[derive(Clone, Copy)]
 pub enum Ended {
     Done(Rounds),
     Refused(Refusal),
 }
 
 // What an election returns: how many were elected.
-#[derive(Drop)]
+#[derive(Clone, Copy)]
 pub enum Elected {
     Done(usize),
     Refused(Refusal),

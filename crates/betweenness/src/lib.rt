@@ -1,4 +1,5 @@
 // Betweenness of the nodes (Brandes 2001).
+#![tactic(auto)]
 ghost use Rattle.std.specs.Prelude.{◌≡◌, slice_index_or};
 ghost use Rattle.std.specs.Float.{nan, binary64};
 ghost use Rattle.std.specs.Float.Ieee.{mul};

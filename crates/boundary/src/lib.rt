@@ -1,4 +1,5 @@
 // What passes between C and the calls: the structs of include/meadowrut.h, and what a call said in their numbers.
+#![tactic(auto)]
 ghost use Rattle.std.specs.Prelude.{◌≡◌};
 ghost use Rattle.answers.specs.Answers.{done, refused_with, said_ended, said_elected};
 ghost use Rattle.graph.specs.Edges.{one_if};
@@ -10,7 +11,7 @@ use ran::Ran;
 
 // What the iterative calls are asked.
 #[repr(C)]
-#[derive(Drop)]
+#[derive(Clone, Copy)]
 pub struct Settings {
     pub damping: f64,
     pub tolerance: f64,
@@ -19,7 +20,7 @@ pub struct Settings {
 
 // What an iterative call says.
 #[repr(C)]
-#[derive(Drop)]
+#[derive(Clone, Copy)]
 pub struct Report {
     pub answer: u32,
     pub settled: u32,
@@ -29,7 +30,7 @@ pub struct Report {
 
 // What an election says.
 #[repr(C)]
-#[derive(Drop)]
+#[derive(Clone, Copy)]
 pub struct Election {
     pub answer: u32,
     pub elected: usize,
@@ -37,7 +38,7 @@ pub struct Election {
 
 // What an answered job text says: how many bytes were written.
 #[repr(C)]
-#[derive(Drop)]
+#[derive(Clone, Copy)]
 pub struct Text {
     pub answer: u32,
     pub length: usize,

@@ -1,4 +1,5 @@
 // Eigenvector centrality: power iteration on the edges and the identity, from the uniform unit vector.
+#![tactic(auto)]
 ghost use Rattle.std.specs.Prelude.{◌≡◌, ◌+◌, ◌≤◌, not, ◌||◌, length};
 ghost use mathlib.Core.List.{foldl};
 ghost use Rattle.std.specs.Float.Ieee.Scale.{finite};

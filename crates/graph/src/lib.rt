@@ -1,4 +1,5 @@
 // The graph layer: the checks of a lent graph, of numbers and of a workspace.
+#![tactic(auto)]
 ghost use Rattle.std.specs.Prelude.{◌≡◌, ◌&&◌, false, ◌≤◌, ◌<◌, eqb, length};
 ghost use Rattle.std.specs.Float.Ieee.Scale.{finite};
 ghost use Rattle.graph.specs.Edges.{edges_of};
@@ -11,7 +12,7 @@ ghost use Rattle.graph.specs.Left.{Wiped};
 use answers::{Answer, Settings};
 
 // The first end that is no node: its edge, and which end.
-#[derive(Drop)]
+#[derive(Clone, Copy)]
 pub enum Fault {
     Nothing,
     From(usize),
@@ -19,14 +20,14 @@ pub enum Fault {
 }
 
 // The first number that is an infinity or a NaN.
-#[derive(Drop)]
+#[derive(Clone, Copy)]
 pub enum Found {
     Nothing,
     At(usize),
 }
 
 // How many numbers of each slice of a workspace are used.
-#[derive(Drop)]
+#[derive(Clone, Copy)]
 pub struct Fronts {
     pub narrow: usize,
     pub wide: usize,

@@ -1,4 +1,5 @@
 // Hop sequences, and the steps of a breadth-first search that keeps the fewest hops and the number of ways to each node (Brandes 2001).
+#![tactic(auto)]
 ghost use Rattle.std.specs.Prelude.{◌≡◌};
 ghost use Rattle.hops.specs.Search.{BeginPre, Begun, TouchPre, Touched, grown, too_many, ForgetPre, Forgotten};
 
@@ -9,14 +10,14 @@ pub const UNREACHED: u32 = 4294967295;
 pub const PATH_LIMIT: u64 = 9007199254740992;
 
 // How far a search has come: so many nodes stand in its queue, or a count exceeds the limit.
-#[derive(Drop)]
+#[derive(Clone, Copy)]
 pub enum Reached {
     Nodes(usize),
     Paths,
 }
 
 // What one entry of a row was to a search.
-#[derive(Drop)]
+#[derive(Clone, Copy)]
 pub enum Step {
     First,
     Again,

@@ -1,4 +1,6 @@
 // The command program's whole work, on slices: the bytes of a job in, the text of its answer out.
+#![tactic(auto)]
+
 ghost use Rattle.std.specs.Prelude.{◌≡◌, take};
 ghost use Rattle.text.specs.Written.{Written};
 ghost use Rattle.outcomes.specs.Pres.{Room};

@@ -1,4 +1,5 @@
 // What a replayed call is lent and what it leaves: slices of exactly the lengths that its record gives, and what it says.
+#![tactic(auto)]
 ghost use Rattle.std.specs.Prelude.{◌≡◌, take};
 ghost use Rattle.words.specs.Words.{word_at};
 ghost use Rattle.answers.specs.Answers.{number_said, said_plain};
@@ -23,7 +24,7 @@ pub const OLD64: u64 = 0xa5a5_a5a5_a5a5_a5a5;
 pub const OLDF: f64 = -123456.789;
 
 // What a call says, in a record's words: 0 for what it does not report.
-#[derive(Drop)]
+#[derive(Clone, Copy)]
 pub struct Said {
     pub answer: u64,
     pub settled: u64,
@@ -32,7 +33,7 @@ pub struct Said {
 }
 
 // What a call says, its four result slices and the workspace, with all that stands behind what was lent.
-#[derive(Drop)]
+#[derive(Clone, Copy)]
 pub struct Left {
     pub answer: u64,
     pub settled: u64,

@@ -1,6 +1,7 @@
 // The grammar of lines: a line is known by the place where it begins, and ends in a newline. It has the measures by name,
 // the lines of a number, of an edge, of a measure, and the six lines `kind` to `tolerance`. Which settings a measure uses
 // is not said here.
+#![tactic(auto)]
 ghost use Rattle.std.specs.Prelude.{◌≡◌, ◌+◌, ◌<◌, ◌≤◌, length, get_or};
 ghost use Rattle.text.specs.Text.{is_word};
 ghost use Rattle.lines.specs.declared.Measure.TheVariants.{Degree};
@@ -10,7 +11,7 @@ ghost use Rattle.lines.specs.Top.{top_of};
 
 use text::Number;
 
-#[derive(Drop)]
+#[derive(Clone, Copy)]
 pub enum Measure {
     Betweenness,
     Pagerank,
@@ -24,49 +25,49 @@ pub enum Measure {
 }
 
 // A measure's name: the first `long` bytes.
-#[derive(Drop)]
+#[derive(Clone, Copy)]
 pub struct Word {
     pub bytes: [u8; 12],
     pub long: usize,
 }
 
 // The measure that a word names.
-#[derive(Drop)]
+#[derive(Clone, Copy)]
 pub enum Named {
     Measured(Measure),
     Unknown,
 }
 
 // Where the value of a line begins, and where its newline stands.
-#[derive(Drop)]
+#[derive(Clone, Copy)]
 pub enum Span {
     Of(usize, usize),
     Fault,
 }
 
 // The number of a line, and where the next line begins.
-#[derive(Drop)]
+#[derive(Clone, Copy)]
 pub enum Line {
     Value(u64, usize),
     Fault,
 }
 
 // The measure of a line, and where the next line begins.
-#[derive(Drop)]
+#[derive(Clone, Copy)]
 pub enum MeasureLine {
     Value(Measure, usize),
     Fault,
 }
 
 // From, to and the weight's bits, and where the next line begins.
-#[derive(Drop)]
+#[derive(Clone, Copy)]
 pub enum EdgeLine {
     Edge(u64, u64, u64, usize),
     Fault,
 }
 
 // The lines `kind` to `tolerance`. Factor and tolerance are the bits of floats.
-#[derive(Drop)]
+#[derive(Clone, Copy)]
 pub struct Top {
     pub directed: bool,
     pub nodes: u64,
@@ -77,7 +78,7 @@ pub struct Top {
 }
 
 // The largest value that each setting may have.
-#[derive(Drop)]
+#[derive(Clone, Copy)]
 pub struct Most {
     pub option: u64,
     pub rounds: u64,
@@ -86,7 +87,7 @@ pub struct Most {
 }
 
 // The six lines and where the next one begins, or which of them, from 0, is faulty.
-#[derive(Drop)]
+#[derive(Clone, Copy)]
 pub enum TopRead {
     Read(Top, usize),
     Fault(u64),

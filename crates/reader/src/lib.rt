@@ -1,5 +1,6 @@
 // Reads a job text: the eight lines of its head with the settings that its measure uses, then its edges into lent slices.
 // Weights, factor and tolerance stay bits; `weights_of` makes doubles of the weights.
+#![tactic(auto)]
 ghost use Rattle.std.specs.Prelude.{◌≡◌, map, ℕ, min, set, Float};
 ghost use Rattle.std.proofs.lemmas.List.Edits.{sets};
 ghost use Rattle.std.specs.Float.{binary64};
@@ -11,7 +12,7 @@ ghost use Rattle.reader.specs.Job.{head_of, Taken};
 use lines::{EdgeLine, Line, Measure, MeasureLine, Most, Top, TopRead};
 
 // What a job asks, its edges aside.
-#[derive(Drop)]
+#[derive(Clone, Copy)]
 pub struct Head {
     pub measure: Measure,
     pub top: Top,
@@ -19,14 +20,14 @@ pub struct Head {
 }
 
 // The head and where the edge lines begin, or the number of the faulty line.
-#[derive(Drop)]
+#[derive(Clone, Copy)]
 pub enum HeadRead {
     Read(Head, usize),
     Fault(u64),
 }
 
 // What a text asks, or the number of its first faulty line.
-#[derive(Drop)]
+#[derive(Clone, Copy)]
 pub enum Job {
     Asked(Head),
     Fault(u64),

@@ -1,5 +1,6 @@
 // Replays the Rust's answers to job texts. Standard input is a list of records, whose format tests/differential/driver/list.rs
 // describes: a text and its answer, which is held byte for byte to what `job::run` writes.
+#![tactic(auto)]
 use job::OUTPUT;
 use libc::{STDIN_FILENO, STDOUT_FILENO};
 use ran::Ran;
@@ -12,14 +13,14 @@ const TEXT: usize = 8192;
 const ANSWER: usize = 4096;
 
 // What the records showed.
-#[derive(Drop)]
+#[derive(Clone, Copy)]
 struct Tally {
     jobs: u64,
     differ: u64,
 }
 
 // What a record leaves.
-#[derive(Drop)]
+#[derive(Clone, Copy)]
 enum Step {
     Again(Tally),
     Ended,

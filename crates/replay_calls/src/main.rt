@@ -1,6 +1,7 @@
 // Replays the Rust's answers to library calls. Standard input is a list of records, whose format
 // tests/differential/driver/list.rs describes. Each call is made with slices of exactly the lengths that its record gives, and
 // all that it leaves is compared: what it says, the results, the slots beyond them, the workspace.
+#![tactic(auto)]
 mod lend;
 
 use libc::{STDIN_FILENO, STDOUT_FILENO};

@@ -1,5 +1,6 @@
 // Replays a fixed list of roots that another implementation worked out. Standard input has a line for each:
 // the bits of a double and of its root, 16 hexadecimal digits each. A line that starts with # says how the list was made.
+#![tactic(auto)]
 use libc::{STDIN_FILENO, STDOUT_FILENO};
 
 // The bytes of a line, and where its second number starts.
@@ -14,21 +15,21 @@ const INFINITY: u64 = 0x7ff0_0000_0000_0000;
 const MAGNITUDE: u64 = 0x7fff_ffff_ffff_ffff;
 
 // What the lines showed.
-#[derive(Drop)]
+#[derive(Clone, Copy)]
 struct Tally {
     roots: u64,
     differ: u64,
 }
 
 // What reading a block leaves.
-#[derive(Drop)]
+#[derive(Clone, Copy)]
 enum Step {
     Again(Tally),
     Ended,
 }
 
 // What 16 digits spell.
-#[derive(Drop)]
+#[derive(Clone, Copy)]
 enum Number {
     Bits(u64),
     Faulty,

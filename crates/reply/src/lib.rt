@@ -1,4 +1,5 @@
 // The text of an answer, into a lent slice: each function writes at a place and returns the place after it.
+#![tactic(auto)]
 ghost use Rattle.std.specs.Prelude.{◌≡◌, ◌+◌, ◌*◌, ◌≤◌, length};
 ghost use Rattle.text.specs.Written.{Written};
 ghost use Rattle.lines.specs.Names.{name_of};
@@ -6,7 +7,7 @@ ghost use Rattle.reply.specs.Reply.{settled_text, number_text, measure_text, set
 
 use lines::Measure;
 
-#[derive(Drop)]
+#[derive(Clone, Copy)]
 pub enum Settled {
     Yes,
     No,

@@ -1,4 +1,5 @@
 // What the iterative measures share: their refusals, and what an edge adds to a vector. The definition of rounds and settled stands in specs/.
+#![tactic(auto)]
 ghost use Rattle.std.specs.Prelude.{◌≡◌};
 ghost use Rattle.answers.specs.Answers.{said_ended};
 ghost use Rattle.graph.specs.Refusals.{first_refusal};
@@ -11,7 +12,7 @@ use answers::{Answer, Ended, Refusal, Rounds};
 use graph::Fronts;
 
 // The rows of the table that an iterative measure tests itself.
-#[derive(Drop)]
+#[derive(Clone, Copy)]
 pub struct Own {
     pub number: bool,
     pub damping: bool,

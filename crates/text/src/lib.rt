@@ -1,4 +1,5 @@
 // Numbers and words as text: read from a whole slice, and written into a lent slice. A double goes by its bits.
+#![tactic(auto)]
 ghost use Rattle.std.specs.Prelude.{◌≡◌, ℕ, ◌+◌, ◌<◌, ◌≤◌, length, Float};
 ghost use Rattle.std.proofs.lemmas.List.Edits.{sets};
 ghost use Rattle.std.specs.Float.{binary64};
@@ -7,7 +8,7 @@ ghost use Rattle.text.specs.Text.{digit_of, digits_from, decimal_of, bits_of, st
 ghost use Rattle.text.specs.Written.{Written, digit_byte, digits_text, count_in, decimal_text, bits_text};
 
 // A number that a text stands for, or none.
-#[derive(Drop)]
+#[derive(Clone, Copy)]
 pub enum Number {
     Is(u64),
     Fault,

@@ -1,4 +1,5 @@
 // The words of a record of a call, and where its parts stand among them. tests/differential/driver/list.rs describes the format.
+#![tactic(auto)]
 ghost use Rattle.std.specs.Prelude.{◌≡◌, ◌≤◌, max, not, length, take, ◌==◌};
 ghost use Rattle.words.specs.Words.{sum_of, word_at, past_at, places_of, results_at};
 
@@ -6,7 +7,7 @@ ghost use Rattle.words.specs.Words.{sum_of, word_at, past_at, places_of, results
 pub const WORDS: usize = 2048;
 
 // Where each part of a record begins. A part of results begins with their count.
-#[derive(Drop)]
+#[derive(Clone, Copy)]
 pub struct Places {
     // option, damping, tolerance, limit, given or not, the vector's length
     pub own: usize,
