@@ -1,5 +1,6 @@
 // The numbered answers, what calls return, and the settings of the iterative measures.
 #![tactic(auto)]
+
 ghost use Rattle.std.specs.Prelude.{◌≡◌};
 ghost use Rattle.answers.specs.Answers.{number_of, number_said, refuses, said_plain, said_ended, said_elected};
 ghost use Rattle.answers.specs.Settings.{usual_settings};

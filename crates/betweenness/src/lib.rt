@@ -1,5 +1,6 @@
 // Betweenness of the nodes (Brandes 2001).
 #![tactic(auto)]
+
 ghost use Rattle.std.specs.Prelude.{◌≡◌, slice_index_or};
 ghost use Rattle.std.specs.Float.{nan, binary64};
 ghost use Rattle.std.specs.Float.Ieee.{mul};

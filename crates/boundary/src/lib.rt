@@ -1,5 +1,6 @@
 // What passes between C and the calls: the structs of include/meadowrut.h, and what a call said in their numbers.
 #![tactic(auto)]
+
 ghost use Rattle.std.specs.Prelude.{◌≡◌};
 ghost use Rattle.answers.specs.Answers.{done, refused_with, said_ended, said_elected};
 ghost use Rattle.graph.specs.Edges.{one_if};

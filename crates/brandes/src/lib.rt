@@ -1,5 +1,6 @@
 // Brandes' accumulation from one start: over the nodes of a search in reverse order, each passes its share back to its predecessors.
 #![tactic(auto)]
+
 ghost use Rattle.std.specs.Prelude.{◌≡◌, ◌-◌};
 ghost use mathlib.Core.List.{foldr};
 ghost use Rattle.regions.specs.Region.{part};

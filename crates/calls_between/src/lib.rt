@@ -1,6 +1,7 @@
 // The calls of a record that count shortest paths: betweenness of nodes and of edges. Each is lent slices of exactly the lengths
 // that the record gives.
 #![tactic(auto)]
+
 ghost use Rattle.lent.specs.Said.{NoRounds, NoElection};
 
 use lent::{FLOATS, Left, NARROW, OLD32, OLD64, OLDF, RESULTS, WIDE};

@@ -1,6 +1,7 @@
 // The calls of a record that go by rounds: PageRank, personalized PageRank, eigenvector and Katz. Each is lent slices of exactly
 // the lengths that the record gives.
 #![tactic(auto)]
+
 ghost use Rattle.lent.specs.Said.{NoElection};
 
 use answers::Settings;

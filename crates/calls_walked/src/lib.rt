@@ -1,6 +1,7 @@
 // The calls of a record that are no betweenness and have no rounds: degrees, survey, reaching, VoteRank, Laplacian. Each is lent
 // slices of exactly the lengths that the record gives.
 #![tactic(auto)]
+
 ghost use Rattle.std.specs.Prelude.{◌≡◌};
 ghost use Rattle.lent.specs.Said.{NoRounds};
 

@@ -1,5 +1,6 @@
 // What a call says and leaves, held to its record.
 #![tactic(auto)]
+
 ghost use Rattle.std.specs.Prelude.{◌≡◌, get_or};
 ghost use Rattle.graph.specs.Fronts.{no_fronts};
 ghost use Rattle.compared.specs.Other.{is_other32, is_other64, is_other_f, other_counts, other_scores, other_work, uses_none, used_front, record_front, leaves_other, says_other, finds_other};

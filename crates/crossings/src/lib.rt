@@ -1,5 +1,6 @@
 // Edge betweenness' accumulation from one start: over the nodes of a search in reverse order, each share also goes to the total of its pair.
 #![tactic(auto)]
+
 ghost use Rattle.std.specs.Prelude.{◌≡◌, ◌-◌};
 ghost use mathlib.Core.List.{foldr};
 ghost use Rattle.regions.specs.Region.{part};

@@ -1,6 +1,7 @@
 // Degree centralities: the ends of the edges counted for each node, raw counts as doubles. No workspace; no weight is read.
 // Each call refuses SIZE, NODE, ROOM, in this order.
 #![tactic(auto)]
+
 ghost use Rattle.std.specs.Prelude.{◌≡◌, cond, false, true, [], ◌+◌, ◌≤◌, ◌<◌, ltb, length, get_or};
 ghost use Rattle.answers.specs.Answers.{said_plain};
 ghost use Rattle.graph.specs.Given.{given};

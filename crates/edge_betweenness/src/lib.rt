@@ -1,5 +1,6 @@
 // Betweenness of the edges (Brandes 2001).
 #![tactic(auto)]
+
 ghost use Rattle.std.specs.Prelude.{◌≡◌, not, ◌&&◌, ◌||◌, ltb};
 ghost use Rattle.answers.specs.Answers.{said_plain};
 ghost use Rattle.graph.specs.Given.{given};

@@ -1,5 +1,6 @@
 // Eigenvector centrality: power iteration on the edges and the identity, from the uniform unit vector.
 #![tactic(auto)]
+
 ghost use Rattle.std.specs.Prelude.{◌≡◌, ◌+◌, ◌≤◌, not, ◌||◌, length};
 ghost use mathlib.Core.List.{foldl};
 ghost use Rattle.std.specs.Float.Ieee.Scale.{finite};

@@ -1,5 +1,6 @@
 // The graph layer: the checks of a lent graph, of numbers and of a workspace.
 #![tactic(auto)]
+
 ghost use Rattle.std.specs.Prelude.{◌≡◌, ◌&&◌, false, ◌≤◌, ◌<◌, eqb, length};
 ghost use Rattle.std.specs.Float.Ieee.Scale.{finite};
 ghost use Rattle.graph.specs.Edges.{edges_of};

@@ -1,5 +1,6 @@
 // Hop sequences, and the steps of a breadth-first search that keeps the fewest hops and the number of ways to each node (Brandes 2001).
 #![tactic(auto)]
+
 ghost use Rattle.std.specs.Prelude.{◌≡◌};
 ghost use Rattle.hops.specs.Search.{BeginPre, Begun, TouchPre, Touched, grown, too_many, ForgetPre, Forgotten};
 

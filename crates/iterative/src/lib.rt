@@ -1,5 +1,6 @@
 // A job's iterative measure, on slices: the call that it asks for, with the settings of the job, and what the call says written to the output.
 #![tactic(auto)]
+
 ghost use Rattle.std.specs.Prelude.{[], length};
 ghost use Rattle.text.specs.Written.{Written};
 ghost use Rattle.outcomes.specs.Lent.{lent};

@@ -1,5 +1,6 @@
 // Katz centrality: the walks that leave a node, each step weakened by alpha.
 #![tactic(auto)]
+
 ghost use Rattle.std.specs.Prelude.{◌≡◌, true, ◌<◌, length};
 ghost use mathlib.Core.List.{foldl};
 ghost use Rattle.answers.specs.Answers.{said_ended};

@@ -1,5 +1,6 @@
 // Laplacian centrality, of the Rust's other.rs. It reads the ends of the edges alone.
 #![tactic(auto)]
+
 ghost use Rattle.std.specs.Prelude.{◌≡◌, ◌<◌, ◌≤◌, length};
 ghost use Rattle.regions.specs.Region.{over, list_of};
 ghost use Rattle.answers.specs.Answers.{said_plain};

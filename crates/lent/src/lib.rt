@@ -1,5 +1,6 @@
 // What a replayed call is lent and what it leaves: slices of exactly the lengths that its record gives, and what it says.
 #![tactic(auto)]
+
 ghost use Rattle.std.specs.Prelude.{◌≡◌, take};
 ghost use Rattle.words.specs.Words.{word_at};
 ghost use Rattle.answers.specs.Answers.{number_said, said_plain};

@@ -2,6 +2,7 @@
 // the lines of a number, of an edge, of a measure, and the six lines `kind` to `tolerance`. Which settings a measure uses
 // is not said here.
 #![tactic(auto)]
+
 ghost use Rattle.std.specs.Prelude.{◌≡◌, ◌+◌, ◌<◌, ◌≤◌, length, get_or};
 ghost use Rattle.text.specs.Text.{is_word};
 ghost use Rattle.lines.specs.declared.Measure.TheVariants.{Degree};

@@ -1,6 +1,7 @@
 // What the two PageRanks share: the weighted lists with their out-weights, what a node gives along its list,
 // the vector that is divided by its sum, and how a call ends.
 #![tactic(auto)]
+
 ghost use Rattle.std.specs.Prelude.{◌≡◌, ◌+◌, ◌<◌, ◌≤◌, true, length, if◌then◌else◌};
 ghost use mathlib.Core.List.{foldl};
 ghost use Rattle.regions.specs.Doubles.{one};

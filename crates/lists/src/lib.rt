@@ -2,6 +2,7 @@
 // of its edge; its weight stays in the lent slice. A walk counts the entries, another places them, from the last edge to the
 // first: each list is filled from its far end, and so stands in edge order.
 #![tactic(auto)]
+
 ghost use Rattle.std.specs.Prelude.{◌≡◌, ◌+◌, ◌≤◌, ◌<◌, length, get_or};
 ghost use Rattle.lists.specs.Lists.{weight_of, shares_at, ListsFit, BuildPre, Built, OutPre, OutWeights};
 ghost use Rattle.lists.specs.Walks.{with_entry, PutPre, edge_placed, EdgePlacePre, PlacePre, Placed};

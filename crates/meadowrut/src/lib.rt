@@ -1,6 +1,7 @@
 // The C interface: each public call under its C name, flags as numbers, answers as document 01's numbers. Declared in
 // include/meadowrut.h, where each has its refusals and the room it needs.
 #![tactic(auto)]
+
 ghost use Rattle.std.specs.Prelude.{◌≡◌, []};
 ghost use Rattle.roots.specs.Root.{sqrt_of, SquareRoot};
 ghost use Rattle.roots.specs.Absolute.{abs_of};

@@ -1,5 +1,6 @@
 // What a call said, written to the output as the answer's text; and the settings that a job asks for.
 #![tactic(auto)]
+
 ghost use Rattle.std.specs.Prelude.{◌≡◌, min, length};
 ghost use Rattle.text.specs.Written.{Written};
 ghost use Rattle.answers.specs.Answers.{number_of, said_plain, said_ended, said_elected};

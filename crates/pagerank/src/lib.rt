@@ -1,5 +1,6 @@
 // PageRank: scores that nodes pass on along their weighted lists, round by round.
 #![tactic(auto)]
+
 ghost use Rattle.std.specs.Prelude.{◌≡◌, ◌*◌, ◌<◌, ◌≤◌, length, ◌==◌};
 ghost use Rattle.answers.specs.Answers.{said_ended};
 ghost use Rattle.graph.specs.Given.{given as lent};

@@ -1,5 +1,6 @@
 // Edge betweenness' search from one start: as that of `predecessors`, and beside each predecessor entry the number of its pair.
 #![tactic(auto)]
+
 ghost use Rattle.pair_search.specs.Pairs.{EnterPairPre, EnterPairPost, VisitPairsPre, VisitPairsPost, OnPairsPost, SearchPairsPre, SearchPairsPost};
 
 use hops::{Reached, Step};

@@ -1,5 +1,6 @@
 // Edge betweenness over many starts: the workspace that `starts` makes ready with each row entry's pair beside it, and each start in turn.
 #![tactic(auto)]
+
 ghost use Rattle.starts.specs.Starts.{PreparePre};
 ghost use Rattle.pair_starts.specs.Starts.{CrossPre, CrossPost, CrossAllPre, CrossAllPost, PreparedPairs};
 

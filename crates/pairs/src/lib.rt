@@ -1,5 +1,6 @@
 // The ordered pairs of edge betweenness by numbers: each row entry's, and each edge's total out of those that stand by number.
 #![tactic(auto)]
+
 ghost use Rattle.std.specs.Prelude.{◌≡◌, true, false, cond, ◌-◌, ◌≤◌, ltb, length};
 ghost use Rattle.pairs.specs.Numbers.{NumberPre, NumberPost, RowPre, RowNumbered};
 ghost use Rattle.pairs.specs.Writes.{WalkPre, ForwardPost, BackPre, BackTotal, BackPost};

@@ -1,5 +1,6 @@
 // Personalized PageRank: scores that nodes pass on along their weighted lists, round by round, and that keep to a personalization vector.
 #![tactic(auto)]
+
 ghost use Rattle.std.specs.Prelude.{◌≡◌, ◌*◌, ◌<◌, ◌≤◌, length, if◌then◌else◌};
 ghost use Rattle.regions.specs.Doubles.{double};
 ghost use Rattle.answers.specs.Answers.{said_ended};

@@ -1,5 +1,6 @@
 // One election of VoteRank, over abilities at the front of the floats and votes behind them: the votes, the first highest, the elected's neighbours.
 #![tactic(auto)]
+
 ghost use Rattle.std.specs.Prelude.{◌≡◌, cond, ◌+◌, ◌*◌, ◌-◌, ◌≤◌, ◌<◌, length, get_or};
 ghost use mathlib.Core.List.{foldl};
 ghost use Rattle.std.specs.Float.{nan};

@@ -1,5 +1,6 @@
 // Brandes' search from one start: breadth-first, with the entries of each node's predecessors in the order in which they come.
 #![tactic(auto)]
+
 ghost use Rattle.std.specs.Prelude.{◌≡◌};
 ghost use Rattle.predecessors.specs.Tracks.{enters, pushed, PushPre, EnterPre, EnterPost, VisitPre, VisitPost, OnPost, SearchPre, SearchPost};
 

@@ -1,5 +1,6 @@
 // What answering a job text returns.
 #![tactic(auto)]
+
 use answers::Refusal;
 
 // How many bytes were written, or why none was.

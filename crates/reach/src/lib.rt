@@ -1,5 +1,6 @@
 // The nodes within a hop limit of one node, counted: a search over the rows, without counts of ways.
 #![tactic(auto)]
+
 ghost use Rattle.reach.specs.Search.{MeetPre, Met, SpreadPre, SpreadPost, WithinPre, WithinPost, FromPre, FromPost};
 
 // How many nodes are within the limit of `start`, itself counted: they stand in the queue.

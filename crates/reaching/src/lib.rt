@@ -1,5 +1,6 @@
 // Reaching centralities, local and global, of the Rust's other.rs. Each call reads the ends of the edges alone.
 #![tactic(auto)]
+
 ghost use Rattle.std.specs.Prelude.{◌≡◌};
 ghost use Rattle.answers.specs.Answers.{said_plain};
 ghost use Rattle.graph.specs.Given.{given};

@@ -1,6 +1,7 @@
 // Reads a job text: the eight lines of its head with the settings that its measure uses, then its edges into lent slices.
 // Weights, factor and tolerance stay bits; `weights_of` makes doubles of the weights.
 #![tactic(auto)]
+
 ghost use Rattle.std.specs.Prelude.{◌≡◌, map, ℕ, min, set, Float};
 ghost use Rattle.std.proofs.lemmas.List.Edits.{sets};
 ghost use Rattle.std.specs.Float.{binary64};

@@ -1,5 +1,6 @@
 // What the programs that replay a list share: the numbers in front of a record, and its bytes.
 #![tactic(auto)]
+
 ghost use Rattle.std.specs.Prelude.{◌≡◌};
 ghost use Rattle.records.specs.Records.{number_in, with_digit, part_of, Read};
 

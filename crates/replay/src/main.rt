@@ -1,6 +1,7 @@
 // Replays the Rust's answers to job texts. Standard input is a list of records, whose format tests/differential/driver/list.rs
 // describes: a text and its answer, which is held byte for byte to what `job::run` writes.
 #![tactic(auto)]
+
 use job::OUTPUT;
 use libc::{STDIN_FILENO, STDOUT_FILENO};
 use ran::Ran;

@@ -2,6 +2,7 @@
 // tests/differential/driver/list.rs describes. Each call is made with slices of exactly the lengths that its record gives, and
 // all that it leaves is compared: what it says, the results, the slots beyond them, the workspace.
 #![tactic(auto)]
+
 mod lend;
 
 use libc::{STDIN_FILENO, STDOUT_FILENO};

@@ -1,6 +1,7 @@
 // Replays a fixed list of roots that another implementation worked out. Standard input has a line for each:
 // the bits of a double and of its root, 16 hexadecimal digits each. A line that starts with # says how the list was made.
 #![tactic(auto)]
+
 use libc::{STDIN_FILENO, STDOUT_FILENO};
 
 // The bytes of a line, and where its second number starts.

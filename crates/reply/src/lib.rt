@@ -1,5 +1,6 @@
 // The text of an answer, into a lent slice: each function writes at a place and returns the place after it.
 #![tactic(auto)]
+
 ghost use Rattle.std.specs.Prelude.{◌≡◌, ◌+◌, ◌*◌, ◌≤◌, length};
 ghost use Rattle.text.specs.Written.{Written};
 ghost use Rattle.lines.specs.Names.{name_of};

@@ -1,5 +1,6 @@
 // Square root, absolute value and maximum of doubles, by their bits. Each call takes every double.
 #![tactic(auto)]
+
 ghost use Rattle.std.specs.Prelude.{◌≡◌, ◌+◌, ◌*◌, ◌^◌, ◌<◌, ◌≤◌};
 ghost use Rattle.roots.specs.Root.{SquareRoot, isqrt, round_root, root_at, root_of, sqrt_of};
 ghost use Rattle.roots.specs.Absolute.{abs_of};

@@ -1,5 +1,6 @@
 // What the iterative measures share: their refusals, and what an edge adds to a vector. The definition of rounds and settled stands in specs/.
 #![tactic(auto)]
+
 ghost use Rattle.std.specs.Prelude.{◌≡◌};
 ghost use Rattle.answers.specs.Answers.{said_ended};
 ghost use Rattle.graph.specs.Refusals.{first_refusal};

@@ -1,6 +1,7 @@
 // Prints the neighbour rows of a few small graphs. The file `stdout` has them as document 01's rule gives them, worked out by hand:
 // newest edge first, edges from the node, then, undirected, edges to it from another node; parallel edges each.
 #![tactic(auto)]
+
 ghost use Rattle.std.specs.Prelude.{◌≡◌, ◌<◌};
 ghost use Rattle.rows.specs.Rows.{RowsFit};
 

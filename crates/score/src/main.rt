@@ -3,6 +3,7 @@
 // Bytes past the limit's first one cannot change the answer and are not read. A read that fails leaves standard output empty,
 // a write that fails leaves it short; either writes one line to standard error.
 #![tactic(auto)]
+
 ghost use Rattle.std.specs.Prelude.{◌≤◌, length};
 ghost use Rattle.score.specs.Got.{Within};
 

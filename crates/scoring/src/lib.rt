@@ -1,5 +1,6 @@
 // The answer of a job's measure: which call answers which measure, and the slots and the workspace that it is lent.
 #![tactic(auto)]
+
 ghost use Rattle.std.specs.Prelude.{◌≡◌, length};
 ghost use Rattle.text.specs.Written.{Written};
 ghost use Rattle.outcomes.specs.Lent.{lent};

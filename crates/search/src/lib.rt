@@ -1,5 +1,6 @@
 // The whole search from one start: breadth first over neighbour rows, with the fewest hops and the number of ways to each node (Brandes 2001).
 #![tactic(auto)]
+
 ghost use Rattle.hops.specs.Search.{SearchPre, SearchPost, OnPost, Visiting, VisitPost};
 
 use hops::Reached;

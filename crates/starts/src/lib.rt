@@ -1,5 +1,6 @@
 // Betweenness over many starts: how a call makes its workspace ready, and each start in turn.
 #![tactic(auto)]
+
 ghost use Rattle.std.specs.Prelude.{◌≡◌};
 ghost use Rattle.regions.specs.Region.{Apart, Copied};
 ghost use Rattle.starts.specs.Starts.{StartPre, StartPost, StartsPre, StartsPost, PreparePre, Prepared, IndexPre, Indexed};

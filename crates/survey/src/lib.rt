@@ -1,5 +1,6 @@
 // The survey from one node: the fewest hops to every node, and the number of hop sequences of that length.
 #![tactic(auto)]
+
 ghost use Rattle.std.specs.Prelude.{◌≡◌};
 ghost use Rattle.answers.specs.Answers.{said_plain};
 ghost use Rattle.graph.specs.Given.{given};

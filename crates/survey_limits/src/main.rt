@@ -1,6 +1,7 @@
 // The survey at its limits, run at full size: 2^53 paths pass and one more is PATHS; 4,096 nodes pass and 4,097 are SIZE. Prints the answer's
 // number and, of a survey that was not refused, the distance and the count of the chain's end.
 #![tactic(auto)]
+
 ghost use Rattle.std.specs.Prelude.{◌≤◌, ◌<◌, length};
 
 use libc::STDOUT_FILENO;

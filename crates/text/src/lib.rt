@@ -1,5 +1,6 @@
 // Numbers and words as text: read from a whole slice, and written into a lent slice. A double goes by its bits.
 #![tactic(auto)]
+
 ghost use Rattle.std.specs.Prelude.{◌≡◌, ℕ, ◌+◌, ◌<◌, ◌≤◌, length, Float};
 ghost use Rattle.std.proofs.lemmas.List.Edits.{sets};
 ghost use Rattle.std.specs.Float.{binary64};

@@ -1,5 +1,6 @@
 // VoteRank, of the Rust's other.rs: nodes elected by their neighbours. It reads the ends of the edges alone.
 #![tactic(auto)]
+
 ghost use Rattle.std.specs.Prelude.{◌≡◌, ◌*◌, ◌≤◌, min, if◌then◌else◌};
 ghost use Rattle.answers.specs.Answers.{said_elected};
 ghost use Rattle.graph.specs.Given.{given};

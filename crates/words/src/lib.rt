@@ -1,5 +1,6 @@
 // The words of a record of a call, and where its parts stand among them. tests/differential/driver/list.rs describes the format.
 #![tactic(auto)]
+
 ghost use Rattle.std.specs.Prelude.{◌≡◌, ◌≤◌, max, not, length, take, ◌==◌};
 ghost use Rattle.words.specs.Words.{sum_of, word_at, past_at, places_of, results_at};
 

@@ -1,0 +1,12 @@
+-- `boundary::done_report` meets its contract, field by field. Assumes nothing.
+use mathlib.Core.Path.{◌≡◌, ap}
+use Prim.Native.Nat.{ℕ}
+use borrow.Author.Rules.{rules}
+use Rattle.boundary.specs.declared.Report.{Report}
+use Rattle.boundary.specs.Boundary.{returned}
+use Rattle.boundary.proofs.done_report.Goals as goal
+
+pub returns : goal.returns
+returns c =
+    let r = c.args.r in
+    ap (λ (k : ℕ). record { answer = 0; settled = k; rounds = r.rounds; settings = returned r.settings }) c.as_number.ensures

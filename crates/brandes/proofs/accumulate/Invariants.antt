@@ -1,0 +1,13 @@
+-- `brandes::accumulate` meets its contract: the nodes from place i of the queue have left. Assumes nothing.
+use Rattle.std.proofs.Common.{◌≡◌, ℕ, ◌+◌, ◌-◌, ◌≤◌, length, drop, refl, ap, ◌∙◌, arith, rules}
+use mathlib.Core.List.{foldr}
+use Rattle.regions.specs.Region.{part}
+use Rattle.brandes.specs.Steps.{held_predecessors, left_by}
+use Rattle.brandes.proofs.Folds.{foldr_none, foldr_more, foldr_all}
+use Rattle.brandes.proofs.accumulate.Given as goal
+
+abbrev pub invariant-loop-i : goal.invariant-loop-i
+invariant-loop-i l = (l.i ≤ l.found) × (length l.wf ≡ length l.initial.wf) × (l.wf ≡ foldr (left_by l.nodes l.w64 (held_predecessors l.first l.last l.base l.w32) l.start) l.initial.wf (drop l.i (part l.w32 l.queue l.found)))
+
+abbrev pub decreases-loop-i : goal.decreases-loop-i
+decreases-loop-i l = l.i

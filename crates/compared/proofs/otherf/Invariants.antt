@@ -1,0 +1,16 @@
+-- `compared::otherf` meets its contract: the slots that are left decide it. Assumes nothing.
+use mathlib.Core.Path.{◌≡◌, refl, sym, ap, ◌∙◌}
+use Prim.Native.Nat.{◌≤◌, ◌-◌}
+use native.Mathlib.Omega.{arith}
+use lib.ListN.{length, drop, get_or}
+use lib.Ieee.{binary64, to_bits, nan}
+use Rattle.compared.specs.Other.{is_other_f, old_f}
+use Rattle.compared.proofs.Other.{same_slot, other_slot, no_slot, too_short}
+use borrow.Author.Rules.{rules}
+use Rattle.compared.proofs.otherf.Given as goal
+
+abbrev pub invariant-loop-i : goal.invariant-loop-i
+invariant-loop-i l = (l.i ≤ length l.slice) × (length l.first ≤ length l.slice) × (is_other_f l.slice l.first ≡ is_other_f (drop l.i l.slice) (drop l.i l.first))
+
+abbrev pub decreases-loop-i : goal.decreases-loop-i
+decreases-loop-i l = length l.slice - l.i

@@ -1,0 +1,6 @@
+-- `compared::used_by` meets its contract. Assumes nothing.
+use borrow.Author.Rules.{rules}
+use Rattle.compared.proofs.used_by.Goals as goal
+
+pub returns : goal.returns
+returns c = cc

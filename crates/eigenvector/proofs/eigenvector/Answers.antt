@@ -1,0 +1,41 @@
+-- `eigenvector::eigenvector` meets its contract: a refusal by its test, the scores by what the rounds leave. Assumes nothing.
+use Rattle.std.proofs.Common.{List, rules}
+use lib.Ieee.{Float}
+use Rattle.graph.specs.Given.{Given, given}
+use Rattle.graph.specs.Pres.{Passed}
+use Rattle.graph.proofs.Refusals.{passed}
+use Rattle.graph.proofs.Left.{refused}
+use Rattle.eigenvector.specs.Eigenvector.{eigen_tests, eigen_outcome}
+use Rattle.eigenvector.proofs.Steps.{answered, ready, run_pre, writes, ended}
+use Rattle.eigenvector.proofs.eigenvector.Goals as goal
+
+-- what the call is given
+abbrev here : goal.Start → Given (List Float)
+here c =
+    let s = c.args in
+    given s.nodes s.directed s.from.now s.to.now s.weight.now s.scores.now s.w32.now s.w64.now s.wf.now
+
+-- after the test: nothing refused
+ok : (c : goal.Else-refuses) → Passed (eigen_tests c.args.settings (here c.before.before.before.before.before.before.before.before.before.before.before.before))
+ok c =
+    passed (eigen_tests c.args.settings (here c.before.before.before.before.before.before.before.before.before.before.before.before)) (answered c.args.settings (here c.before.before.before.before.before.before.before.before.before.before.before.before) c.refusal-answer.ensures c.reads_wrong.ensures) c.refuses.ensures c.if-refuses.false
+
+pub returns-then-refuses : goal.returns-then-refuses
+unfolding eigen_outcome
+returns-then-refuses c =
+    let a = c.args in
+    let g = here (goal.at.returns-then-refuses c).Start in
+    refused g (eigen_tests a.settings g) _ (answered a.settings g c.refusal-answer.ensures c.reads_wrong.ensures) c.refuses.ensures c.if-refuses.true
+
+pub run-ended-requires : goal.run-ended-requires
+run-ended-requires c = run_pre c.args.settings (here (goal.at.run-ended-requires c).Start) (ok (goal.at.run-ended-requires c).Else-refuses)
+
+pub usual_fronts-front-requires : goal.usual_fronts-front-requires
+usual_fronts-front-requires c = (ready c.args.settings (here (goal.at.usual_fronts-front-requires c).Start) (ok (goal.at.usual_fronts-front-requires c).Else-refuses)).sound.limits
+
+pub write_settled-requires : goal.write_settled-requires
+write_settled-requires c = writes c.args.settings (here (goal.at.write_settled-requires c).Start) (ok (goal.at.write_settled-requires c).Else-refuses) c.run-ended.ensures c.usual_fronts-front.ensures
+
+pub returns : goal.returns
+returns c =
+    ended c.args.settings (here (goal.at.returns c).Start) (ok (goal.at.returns c).Else-refuses) c.run-ended.ensures c.usual_fronts-front.ensures c.write_settled.ensures

@@ -1,0 +1,24 @@
+-- `katz::advance` meets its contract: after i nodes both vectors are rewritten up to i, and the sum has i changes. Assumes nothing.
+use Prim.Native.Nat.{◌≤◌, ◌-◌}
+use mathlib.Core.Path.{◌≡◌, refl, ap, ◌∙◌}
+use native.Mathlib.Nat.{le_refl}
+use native.Mathlib.Omega.{arith}
+use lib.ListN.{length-set}
+use lib.Ieee.{of_bits}
+use Rattle.regions.specs.Region.{zero_f}
+use Rattle.rounds.specs.Rounds.{after}
+use Rattle.rounds.specs.Vectors.{entry, with_change, squared_change, current_in, next_in}
+use Rattle.rounds.proofs.Rounds.{after_none}
+use Rattle.rounds.proofs.Vectors.{next_list, vectors_are}
+use Rattle.rounds.proofs.Passes.{Rewritten, rewritten_none, rewritten_more, rewritten_done, change_more}
+use Rattle.katz.specs.Katz.{beta_at}
+use borrow.Author.Rules.{rules}
+use Rattle.katz.proofs.advance.Given as goal
+
+abbrev pub invariant-loop-i : goal.invariant-loop-i
+invariant-loop-i l = (l.i ≤ l.nodes)
+    × Rewritten l.nodes (entry (next_in l.nodes l.initial.wf)) (beta_at l.given l.beta) l.initial.wf l.i l.wf
+    × (l.sum ≡ after (with_change (current_in l.nodes l.initial.wf) (next_in l.nodes l.initial.wf)) l.i zero_f)
+
+abbrev pub decreases-loop-i : goal.decreases-loop-i
+decreases-loop-i l = l.nodes - l.i

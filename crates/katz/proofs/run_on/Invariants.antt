@@ -1,0 +1,24 @@
+-- `katz::run_on` meets its contract: where the rounds from the kth on end is where all end. Assumes nothing.
+use Prim.Native.Nat.{◌+◌, ◌≤◌, ◌-◌}
+use mathlib.Core.Path.{◌≡◌, refl}
+use native.Mathlib.Nat.{sub-zero}
+use native.Mathlib.Omega.{arith}
+use Rattle.regions.specs.Region.{Front}
+use Rattle.regions.proofs.Fronts.{front_none, front_then}
+use Rattle.rounds.specs.Rounds.{outcome_from}
+use Rattle.rounds.specs.Vectors.{current_in, next_in}
+use Rattle.rounds.proofs.Rounds.{rounds_more, rounds_met, rounds_over}
+use Rattle.katz.specs.Katz.{beta_of, katz_step}
+use Rattle.graph.specs.Edges.{graph_from}
+use borrow.Author.Rules.{rules}
+use Rattle.katz.proofs.run_on.Given as goal
+
+abbrev pub invariant-loop-k : goal.invariant-loop-k
+invariant-loop-k l = let step = katz_step (graph_from l.nodes l.directed l.from l.to l.weight) l.alpha l.tolerance (beta_of l.given l.beta l.nodes) in
+    (l.k ≤ l.limit)
+    × Front l.initial.wf (l.nodes + l.nodes) l.wf
+    × (next_in l.nodes l.wf ≡ beta_of l.given l.beta l.nodes)
+    × (outcome_from step (l.limit - l.k) l.k (current_in l.nodes l.wf) ≡ outcome_from step l.limit 0 (current_in l.nodes l.initial.wf))
+
+abbrev pub decreases-loop-k : goal.decreases-loop-k
+decreases-loop-k l = l.limit - l.k

@@ -1,0 +1,10 @@
+-- `links::copy_weights` meets its contract: at k the entries before it have their weights. Assumes nothing.
+use Rattle.std.proofs.Common.{ℕ, ◌+◌, ◌-◌, ◌*◌, ◌≤◌, length, get_or, arith, rules}
+use Rattle.links.proofs.Weights.{first_least, total, copied_none, reads as readsAt, Copying, copying_none, copying_more, copying_done}
+use Rattle.links.proofs.copy_weights.Given as goal
+
+abbrev pub invariant-loop-k : goal.invariant-loop-k
+invariant-loop-k l = (get_or l.w 0 0 ≤ l.k) × (l.k ≤ get_or l.w l.nodes 0) × Copying l.nodes l.edges l.weight l.w l.initial.wf l.k l.wf
+
+abbrev pub decreases-loop-k : goal.decreases-loop-k
+decreases-loop-k l = get_or l.w l.nodes 0 - l.k

@@ -1,0 +1,11 @@
+-- `lists::put` meets its contract. Assumes nothing.
+use native.Mathlib.Omega.{arith}
+use lib.ListN.{length-set}
+use borrow.Author.Rules.{rules}
+use Rattle.lists.proofs.put.Goals as goal
+
+pub bounds-w-nodes : goal.bounds-w-nodes
+bounds-w-nodes c = simp length-set (omega (arith, c.requires))
+
+pub bounds-w-nodes-2 : goal.bounds-w-nodes-2
+bounds-w-nodes-2 c = simp length-set (omega (arith, c.requires))

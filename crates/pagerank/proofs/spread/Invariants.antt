@@ -1,0 +1,16 @@
+-- `pagerank::spread` meets its contract: after v nodes they have given. Assumes nothing.
+use Rattle.std.proofs.Common.{◌≡◌, ℕ, ◌-◌, ◌≤◌, List, sym, refl, ap, ◌∙◌, arith, rules}
+use lib.Ieee.{Float}
+use Rattle.rounds.specs.Rounds.{after}
+use Rattle.rounds.specs.Vectors.{current_in, next_in, Vectors}
+use Rattle.links.specs.Links.{Links, links_in}
+use Rattle.pagerank.specs.PageRank.{pagerank_node}
+use Rattle.links.proofs.Turns.{links_kept, nodes_none, nodes_more, nodes_done}
+use Rattle.links.proofs.Rounds.{pre_kept}
+use Rattle.pagerank.proofs.spread.Given as goal
+
+abbrev pub invariant-loop-v : goal.invariant-loop-v
+invariant-loop-v l = (l.v ≤ l.nodes) × Vectors l.nodes l.initial.wf (current_in l.nodes l.initial.wf) (after (pagerank_node (links_in l.nodes l.w l.initial.wf) l.damping (current_in l.nodes l.initial.wf)) l.v (next_in l.nodes l.initial.wf)) l.wf
+
+abbrev pub decreases-loop-v : goal.decreases-loop-v
+decreases-loop-v l = l.nodes - l.v

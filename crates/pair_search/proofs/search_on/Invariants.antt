@@ -1,0 +1,23 @@
+-- `pair_search::search_on` meets its contract: before each visit the search is as `Run` and `RunPairs` say. Assumes nothing.
+use mathlib.Core.Bool.{Bool}
+use mathlib.Core.List.{List}
+use Prim.Native.Nat.{ℕ, ◌+◌, ◌-◌}
+use native.Mathlib.Omega.{arith}
+use lib.ListN.{get_or}
+use Rattle.graph.specs.Edges.{Edge}
+use Rattle.hops.specs.Search.{graph_of}
+use Rattle.predecessors.specs.Tracks.{Tracked}
+use Rattle.predecessors.proofs.Tours.{Run, run_none, run_stays, run_step, run_paths}
+use Rattle.pair_search.specs.Pairs.{TrackedPairs}
+use Rattle.pair_search.proofs.Runs.{RunPairs, run_pairs_none, run_pairs_visiting, run_pairs_step}
+use borrow.Author.Rules.{rules}
+use Rattle.pair_search.proofs.search_on.Given as goal
+
+abbrev pub invariant-loop-head : goal.invariant-loop-head
+invariant-loop-head l = ((directed : Bool) (es : List Edge) (s : ℕ) → Tracked (graph_of l.nodes directed es) l.limit s l.initial.w32 l.initial.w64 l.distances l.queue l.first l.last l.base 0 1 (get_or l.initial.w32 (l.queue + 0) 0) 0
+    → Run (graph_of l.nodes directed es) l.limit s l.distances l.queue l.first l.last l.base l.initial.w32 l.initial.w64 l.w32 l.w64 l.head l.tail)
+    × ((directed : Bool) (es : List Edge) (number : ℕ → ℕ → ℕ) (s : ℕ) → TrackedPairs (graph_of l.nodes directed es) number l.limit s l.initial.w32 l.initial.w64 l.distances l.queue l.beside l.first l.last l.pairs l.base 0 1 (get_or l.initial.w32 (l.queue + 0) 0) 0
+    → RunPairs (graph_of l.nodes directed es) number l.limit s l.distances l.queue l.beside l.first l.last l.pairs l.base l.w32 l.w64 l.head l.tail)
+
+abbrev pub decreases-loop-head : goal.decreases-loop-head
+decreases-loop-head l = l.nodes - l.head

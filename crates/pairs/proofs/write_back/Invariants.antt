@@ -1,0 +1,14 @@
+-- `pairs::write_back` meets its contract: the edges from e on have moved their cursors and have their totals. Assumes nothing.
+use mathlib.Core.Bool.{true}
+use Prim.Native.Nat.{◌≤◌}
+use native.Mathlib.Omega.{arith}
+use lib.ListN.{length}
+use Rattle.pairs.specs.Writes.{back_of}
+use Rattle.pairs.proofs.Walking.{Results, results_none, Moved, moved_none, back_pre, back_moved, back_more, back_done}
+use Rattle.pairs.proofs.write_back.Given as goal
+
+abbrev pub invariant-loop-e : goal.invariant-loop-e
+invariant-loop-e l = (l.e ≤ length l.from) × Moved l.nodes true l.to l.from l.cursors l.e l.initial.w32 l.w32 × Results (back_of l.from l.to l.initial.w32 l.cursors l.beside l.totals l.wf l.forward) (length l.from) l.e l.initial.back l.back
+
+abbrev pub decreases-loop-e : goal.decreases-loop-e
+decreases-loop-e l = l.e

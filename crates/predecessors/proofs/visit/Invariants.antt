@@ -1,0 +1,21 @@
+-- `predecessors::visit` meets its contract: at each entry the search is as `Tour` says. Assumes nothing.
+use mathlib.Core.Path.{sym, ◌∙◌}
+use mathlib.Core.Bool.{Bool}
+use mathlib.Core.List.{List}
+use Prim.Native.Nat.{ℕ, ◌+◌, ◌-◌}
+use native.Mathlib.Omega.{arith}
+use lib.ListN.{get_or}
+use Rattle.graph.specs.Edges.{Edge}
+use Rattle.hops.specs.Search.{graph_of}
+use Rattle.hops.proofs.Scans.{grown_most}
+use Rattle.predecessors.specs.Tracks.{Tracked}
+use Rattle.predecessors.proofs.Tours.{Tour, reads_in, tour_none, in_rows, tour_pre, tour_stays, tour_step, tour_paths, place_fits, tour_done}
+use borrow.Author.Rules.{rules}
+use Rattle.predecessors.proofs.visit.Given as goal
+
+abbrev pub invariant-loop-p : goal.invariant-loop-p
+invariant-loop-p l = (directed : Bool) (es : List Edge) (s : ℕ) → Tracked (graph_of l.nodes directed es) l.limit s l.initial.w32 l.initial.w64 l.distances l.queue l.first l.last l.base l.head l.tail l.u 0
+    → Tour (graph_of l.nodes directed es) l.limit s l.distances l.queue l.first l.last l.base l.head l.initial.w32 l.initial.w64 l.u l.further l.ways l.w32 l.w64 l.p l.place
+
+abbrev pub decreases-loop-p : goal.decreases-loop-p
+decreases-loop-p l = l.end - l.p

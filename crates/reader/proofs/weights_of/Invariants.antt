@@ -1,0 +1,17 @@
+-- `reader::weights_of` meets its contract. Assumes nothing.
+use mathlib.Core.Path.{◌≡◌, refl, sym, ap, ◌∙◌}
+use mathlib.Core.List.{map}
+use Prim.Native.Nat.{◌≤◌, ◌-◌}
+use native.Mathlib.Omega.{arith}
+use lib.ListN.{length, drop, set, length-set}
+use lib.Seq.{sets}
+use lib.Ieee.{binary64, of_bits}
+use Rattle.reader.proofs.Weights.{one_weight, no_weight}
+use borrow.Author.Rules.{rules}
+use Rattle.reader.proofs.weights_of.Given as goal
+
+abbrev pub invariant-loop-k : goal.invariant-loop-k
+invariant-loop-k l = (l.k ≤ length l.bits) × (length l.weights ≡ length l.initial.weights) × (sets l.weights l.k (map (of_bits binary64) (drop l.k l.bits)) ≡ sets l.initial.weights 0 (map (of_bits binary64) l.bits))
+
+abbrev pub decreases-loop-k : goal.decreases-loop-k
+decreases-loop-k l = length l.bits - l.k

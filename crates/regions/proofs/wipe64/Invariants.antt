@@ -1,0 +1,15 @@
+-- `regions::wipe64` meets its contract: after i turns the first i places are cleared. Assumes nothing.
+use mathlib.Core.Path.{◌≡◌, refl, ap, ◌∙◌}
+use Prim.Native.Nat.{ℕ, ◌≤◌, ◌-◌}
+use native.Mathlib.Omega.{arith}
+use borrow.Author.Rules.{rules}
+use lib.ListN.{length}
+use Rattle.regions.specs.Region.{cleared}
+use Rattle.regions.proofs.Fronts.{cleared_none, cleared_more}
+use Rattle.regions.proofs.wipe64.Given as goal
+
+abbrev pub invariant-loop-i : goal.invariant-loop-i
+invariant-loop-i l = (l.i ≤ l.len) × (length l.w ≡ length l.initial.w) × (l.w ≡ cleared 0 l.i l.initial.w)
+
+abbrev pub decreases-loop-i : goal.decreases-loop-i
+decreases-loop-i l = l.len - l.i

@@ -1,0 +1,16 @@
+-- `regions::wipef` meets its contract: after i turns the first i places are cleared. Assumes nothing.
+use mathlib.Core.Path.{◌≡◌, refl, ap, ◌∙◌}
+use Prim.Native.Nat.{ℕ, ◌≤◌, ◌-◌}
+use native.Mathlib.Omega.{arith}
+use borrow.Author.Rules.{rules}
+use lib.ListN.{length}
+use lib.Ieee.{of_bits}
+use Rattle.regions.specs.Region.{cleared, zero_f}
+use Rattle.regions.proofs.Fronts.{cleared_none, cleared_more}
+use Rattle.regions.proofs.wipef.Given as goal
+
+abbrev pub invariant-loop-i : goal.invariant-loop-i
+invariant-loop-i l = (l.i ≤ l.len) × (length l.w ≡ length l.initial.w) × (l.w ≡ cleared zero_f l.i l.initial.w)
+
+abbrev pub decreases-loop-i : goal.decreases-loop-i
+decreases-loop-i l = l.len - l.i

@@ -1,0 +1,12 @@
+-- `replay_calls::lend::front_ends` meets its contract. Assumes nothing.
+use Rattle.std.proofs.Common.{◌≤◌, length, sym, arith, length-take-le, take_all, rules}
+use Rattle.replay_calls.proofs.lend.front_ends.Goals as goal
+
+pub returns-then-slots-n : goal.returns-then-slots-n
+returns-then-slots-n c =
+    let s = c.args in
+    let all : length s.slots.now ≤ s.n = omega arith in
+    sym (take_all _ s.slots.now all)
+
+pub slice_bounds-result-end : goal.slice_bounds-result-end
+slice_bounds-result-end c = sym (length-take-le _ _ c.if-slots-n.false)

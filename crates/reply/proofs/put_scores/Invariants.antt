@@ -1,0 +1,16 @@
+-- `reply::put_scores` meets its contract. Assumes nothing.
+use mathlib.Core.Path.{◌≡◌, refl, ◌∙◌}
+use Prim.Native.Nat.{◌≤◌, ◌-◌, ◌+◌, ◌*◌}
+use native.Mathlib.Omega.{arith}
+use lib.ListN.{length}
+use lib.Ieee.{nan}
+use Rattle.reply.specs.Reply.{score_text}
+use Rattle.reply.proofs.Sequences.{Leads, begun, one_more_line, all_lines}
+use borrow.Author.Rules.{rules}
+use Rattle.reply.proofs.put_scores.Given as goal
+
+abbrev pub invariant-loop-k : goal.invariant-loop-k
+invariant-loop-k l = (l.k ≤ length l.scores) × (length l.output ≡ length l.initial.output) × (l.at + 44 * (length l.scores - l.k) ≤ length l.initial.output) × Leads score_text nan l.scores l.initial.output l.start l.output l.at l.k
+
+abbrev pub decreases-loop-k : goal.decreases-loop-k
+decreases-loop-k l = length l.scores - l.k

@@ -1,0 +1,6 @@
+-- `rounds::length_wrong` meets its contract. Assumes nothing.
+use borrow.Author.Rules.{rules}
+use Rattle.rounds.proofs.length_wrong.Goals as goal
+
+pub returns-then-given : goal.returns-then-given
+returns-then-given c = rw c.if-given.true

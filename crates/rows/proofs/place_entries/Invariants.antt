@@ -1,0 +1,13 @@
+-- `rows::place_entries` meets its contract: after i edges their entries stand at the ends of their rows. Assumes nothing.
+use Prim.Native.Nat.{ℕ, ◌-◌, ◌+◌}
+use native.Mathlib.Omega.{arith}
+use lib.ListN.{length}
+use Rattle.rows.proofs.Placing.{Placing, none, turn, step, done}
+use borrow.Author.Rules.{rules}
+use Rattle.rows.proofs.place_entries.Given as goal
+
+abbrev pub invariant-loop-i : goal.invariant-loop-i
+invariant-loop-i l = Placing l.nodes l.skip l.own l.other l.many l.size l.initial.w l.i l.w
+
+abbrev pub decreases-loop-i : goal.decreases-loop-i
+decreases-loop-i l = l.many - l.i

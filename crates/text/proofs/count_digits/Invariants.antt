@@ -1,0 +1,14 @@
+-- `text::count_digits` meets its contract. Assumes nothing.
+use mathlib.Core.Path.{◌≡◌}
+use Prim.Native.Nat.{◌≤◌, ◌-◌, ◌+◌}
+use native.Mathlib.Omega.{arith}
+use Rattle.text.specs.Written.{count_in}
+use Rattle.text.proofs.Numerals.{one_digit, no_more, one_more}
+use borrow.Author.Rules.{rules}
+use Rattle.text.proofs.count_digits.Given as goal
+
+abbrev pub invariant-loop-n : goal.invariant-loop-n
+invariant-loop-n l = (1 ≤ l.n) × (l.n ≤ 20) × (count_in 19 l.v + 1 ≡ l.n + count_in (20 - l.n) l.rest)
+
+abbrev pub decreases-loop-n : goal.decreases-loop-n
+decreases-loop-n l = 20 - l.n

@@ -1,0 +1,17 @@
+-- `text::put_digits` meets its contract. Assumes nothing.
+use mathlib.Core.Path.{◌≡◌, sym, ◌∙◌}
+use Prim.Native.Nat.{◌≤◌, ◌<◌, ◌-◌}
+use native.Mathlib.Omega.{arith}
+use native.Mathlib.Nat.{mod-lt}
+use lib.ListN.{length, set, length-set}
+use lib.Seq.{sets}
+use Rattle.text.specs.Written.{digits_text}
+use Rattle.text.proofs.Numerals.{last_digit, no_digits}
+use borrow.Author.Rules.{rules}
+use Rattle.text.proofs.put_digits.Given as goal
+
+abbrev pub invariant-loop-i : goal.invariant-loop-i
+invariant-loop-i l = (l.i ≤ l.n) × (length l.output ≡ length l.initial.output) × (sets l.output l.at (digits_text l.base l.i l.rest) ≡ sets l.initial.output l.at (digits_text l.base l.n l.v))
+
+abbrev pub decreases-loop-i : goal.decreases-loop-i
+decreases-loop-i l = l.i

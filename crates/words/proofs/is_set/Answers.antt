@@ -1,0 +1,6 @@
+-- `words::is_set` meets its contract. Assumes nothing.
+use Rattle.std.proofs.Common.{rules}
+use Rattle.words.proofs.is_set.Goals as goal
+
+pub returns : goal.returns
+returns c = rw c.word.ensures
