@@ -8,6 +8,7 @@ use Rattle.graph.proofs.Left.{refused}
 use Rattle.betweenness.specs.Betweenness.{betweenness_outcome}
 use Rattle.betweenness.proofs.Ending.{score_tests, ready, score_asks, wipe_pre, ended_paths, ended_done}
 use Rattle.betweenness.proofs.betweenness.Goals as goal
+use Rattle.betweenness.proofs.betweenness.Goals.{Else-refuses, Start}
 
 -- what the call is given
 abbrev here : goal.Start → Given (List Float)

@@ -2,6 +2,7 @@
 use Rattle.std.proofs.Common.{◌≡◌, ℕ, ◌+◌, ◌-◌, ◌<◌, ◌≤◌, get_or, refl, arith, rules}
 use Rattle.brandes.proofs.Passing.{left_start, left_other}
 use Rattle.brandes.proofs.leave.Goals as goal
+use Rattle.brandes.proofs.leave.Goals.{Start}
 
 -- a place among the entries of w
 entry : (s : goal.Start) (p : ℕ) → s.args.base + get_or s.args.w32.now (s.args.first + s.args.w) 0 ≤ p → p < s.args.base + get_or s.args.w32.now (s.args.last + s.args.w) 0

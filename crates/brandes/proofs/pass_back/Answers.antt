@@ -4,6 +4,7 @@ use Rattle.regions.specs.Region.{part}
 use Rattle.brandes.specs.Steps.{passed_back}
 use Rattle.brandes.proofs.Passing.{pass_none, pass_more}
 use Rattle.brandes.proofs.pass_back.Goals as goal
+use Rattle.brandes.proofs.pass_back.Goals.{In-loop-p}
 
 -- the entry at p is a node
 node : (c : goal.In-loop-p) → get_or c.args.w32.now c.loop-p.p 0 < c.args.nodes

@@ -4,6 +4,7 @@ use lib.Ieee.{of_bits}
 use Rattle.brandes.specs.Steps.{Released}
 use Rattle.brandes.proofs.Releasing.{released_none, Turn, turn, released_more}
 use Rattle.brandes.proofs.release.Goals as goal
+use Rattle.brandes.proofs.release.Goals.{In-loop-i}
 
 -- in a turn
 here : (c : goal.In-loop-i) → Turn c.args.nodes c.args.queue c.args.first c.args.last c.loop-i.i c.loop-i.w32 c.loop-i.wf

@@ -2,6 +2,7 @@
 use Rattle.std.proofs.Common.{◌≡◌, ℕ, ◌+◌, ◌-◌, ◌<◌, ◌≤◌, length, get_or, refl, arith, rules}
 use Rattle.crossings.proofs.Passing.{left_across_lem}
 use Rattle.crossings.proofs.leave.Goals as goal
+use Rattle.crossings.proofs.leave.Goals.{Start}
 
 -- a place among the entries of w holds a node
 entry : (s : goal.Start) (p : ℕ) → s.args.base + get_or s.args.w32.now (s.args.first + s.args.w) 0 ≤ p → p < s.args.base + get_or s.args.w32.now (s.args.last + s.args.w) 0

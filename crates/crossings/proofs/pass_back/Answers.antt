@@ -5,6 +5,7 @@ use Rattle.regions.specs.Region.{part}
 use Rattle.crossings.specs.Crossings.{crossed_all}
 use Rattle.crossings.proofs.Passing.{cross_none, cross_more}
 use Rattle.crossings.proofs.pass_back.Goals as goal
+use Rattle.crossings.proofs.pass_back.Goals.{In-loop-p}
 
 -- the entry at p is a node
 node : (c : goal.In-loop-p) → get_or c.args.w32.now c.loop-p.p 0 < c.args.nodes

@@ -8,6 +8,7 @@ use Rattle.degree.specs.Tally.{tally}
 use Rattle.degree.proofs.Counting.{tally_none, tally_more}
 use borrow.Author.Rules.{rules}
 use Rattle.degree.proofs.add_ends.Goals as goal
+use Rattle.degree.proofs.add_ends.Goals.{In-loop-i}
 
 pub loop-i-init : goal.loop-i-init
 loop-i-init c = (omega arith, refl, tally_none _ _)

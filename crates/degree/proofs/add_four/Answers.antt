@@ -3,6 +3,7 @@ use mathlib.Core.Path.{◌∙◌}
 use native.Mathlib.Omega.{arith}
 use Rattle.degree.proofs.Pairs.{Ends, ends, from_four}
 use Rattle.degree.proofs.add_four.Goals as goal
+use Rattle.degree.proofs.add_four.Goals.{Start}
 
 -- where the code reads, and that each end has a score
 froms : (s : goal.Start) → Ends s.args.from.now s.args.i s.args.scores.now

@@ -6,6 +6,7 @@ use lib.ListN.{length, get_or}
 use Rattle.degree.specs.Tally.{pairs_from}
 use Rattle.degree.proofs.Pairs.{both_at, from_none, from_more}
 use Rattle.degree.proofs.add_rest.Goals as goal
+use Rattle.degree.proofs.add_rest.Goals.{In-loop-i}
 
 -- the ends that are read have a score
 insides : (c : goal.In-loop-i) → (get_or c.args.from.now c.loop-i.i 0 < length c.loop-i.scores) × (get_or c.args.to.now c.loop-i.i 0 < length c.loop-i.scores)

@@ -7,6 +7,7 @@ use Rattle.graph.specs.Refusals.{Tests, first_of, first_refusal, ends_tests}
 use Rattle.graph.proofs.Refusals.{early, late}
 use borrow.Author.Rules.{rules}
 use Rattle.degree.proofs.refusal.Goals as goal
+use Rattle.degree.proofs.refusal.Goals.{Else-refuses, Start}
 
 -- the rows that can hold of this call
 abbrev tests : goal.Start → Tests

@@ -6,6 +6,7 @@ use Rattle.edge_betweenness.specs.Edges.{EdgeScores, edge_scores}
 use Rattle.edge_betweenness.proofs.EdgesEnding.{edge_tests, refused_edges, passed_edges, ready, score_asks, wipe_pre, ended_paths, ended_done}
 use borrow.Author.Rules.{rules}
 use Rattle.edge_betweenness.proofs.edge_betweenness.Goals as goal
+use Rattle.edge_betweenness.proofs.edge_betweenness.Goals.{Else-refuses, Start}
 
 -- what the call is given
 abbrev here : goal.Start → Given EdgeScores

@@ -8,6 +8,7 @@ use Rattle.graph.proofs.Left.{refused}
 use Rattle.eigenvector.specs.Eigenvector.{eigen_tests, eigen_outcome}
 use Rattle.eigenvector.proofs.Steps.{answered, ready, run_pre, writes, ended}
 use Rattle.eigenvector.proofs.eigenvector.Goals as goal
+use Rattle.eigenvector.proofs.eigenvector.Goals.{Else-refuses, Start}
 
 -- what the call is given
 abbrev here : goal.Start → Given (List Float)

@@ -11,6 +11,7 @@ use Rattle.graph.specs.Refusals.{Tests, first_of, first_refusal, ends_tests, roo
 use Rattle.graph.proofs.Checks.{size_limits}
 use Rattle.graph.proofs.Refusals.{early, late}
 use Rattle.graph.proofs.plain_refusal.Goals as goal
+use Rattle.graph.proofs.plain_refusal.Goals.{Else-refuses, Start}
 
 -- the rows that can hold of this call
 abbrev tests : goal.Start → Tests

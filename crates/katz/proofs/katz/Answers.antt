@@ -9,6 +9,7 @@ use Rattle.katz.specs.Katz.{katz_tests, katz_outcome}
 use Rattle.katz.proofs.Steps.{answered, ready, run_pre, writes, ended}
 use borrow.Author.Rules.{rules}
 use Rattle.katz.proofs.katz.Goals as goal
+use Rattle.katz.proofs.katz.Goals.{Else-refuses, Start}
 
 -- what the call is given
 abbrev here : goal.Start → Given (List Float)

@@ -9,6 +9,7 @@ use Rattle.laplacian.specs.Laplacian.{laplacian_outcome}
 use Rattle.laplacian.proofs.Steps.{score_tests, ready, fits, build_pre}
 use Rattle.laplacian.proofs.Ending.{roomy, ended}
 use Rattle.laplacian.proofs.laplacian.Goals as goal
+use Rattle.laplacian.proofs.laplacian.Goals.{Else-refuses, Start}
 
 -- what the call is given
 abbrev here : goal.Start → Given (List Float)

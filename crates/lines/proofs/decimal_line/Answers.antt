@@ -7,6 +7,7 @@ use Rattle.lines.proofs.Spans.{span_within, no_span, no_number, a_number}
 use mathlib.Core.Path.{sym, ◌∙◌}
 use borrow.Author.Rules.{rules}
 use Rattle.lines.proofs.decimal_line.Goals as goal
+use Rattle.lines.proofs.decimal_line.Goals.{In-Of}
 
 lies : (c : goal.In-Of) → (c.in-Of.a ≤ c.in-Of.e) × (c.in-Of.e < length c.args.s.now)
 lies c =

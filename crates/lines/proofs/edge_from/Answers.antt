@@ -7,6 +7,7 @@ use Rattle.lines.specs.Lines.{part_of, edge_of, edge_from}
 use Rattle.lines.proofs.Edges.{no_comma, one_comma, two_commas, no_from, no_to, no_weight, an_edge}
 use borrow.Author.Rules.{rules}
 use Rattle.lines.proofs.edge_from.Goals as goal
+use Rattle.lines.proofs.edge_from.Goals.{Else-d-e}
 
 cut : (c : goal.Else-d-e) → edge_from c.args.s.now c.args.a c.args.e ≡ edge_of (decimal_of (part_of c.args.s.now c.args.a c.comma-c.result)) (decimal_of (part_of c.args.s.now (c.comma-c.result + 1) c.comma-d.result)) (bits_of (part_of c.args.s.now (c.comma-d.result + 1) c.args.e)) (c.args.e + 1)
 cut c =

@@ -8,6 +8,7 @@ use Rattle.lines.proofs.Spans.{span_within, no_span, no_number, a_number}
 use Rattle.lines.specs.Names.{kind_of}
 use borrow.Author.Rules.{rules}
 use Rattle.lines.proofs.kind_line.Goals as goal
+use Rattle.lines.proofs.kind_line.Goals.{In-Of}
 
 lies : (c : goal.In-Of) → (c.in-Of.a ≤ c.in-Of.e) × (c.in-Of.e < length c.args.s.now)
 lies c =

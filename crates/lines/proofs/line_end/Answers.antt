@@ -6,6 +6,7 @@ use Rattle.text.specs.Text.{place_of}
 use Rattle.lines.proofs.Spans.{rest, end_le}
 use borrow.Author.Rules.{rules}
 use Rattle.lines.proofs.line_end.Goals as goal
+use Rattle.lines.proofs.line_end.Goals.{After-place}
 
 found : (c : goal.After-place) → c.place.result ≡ place_of 10 (drop c.args.at c.args.s.now)
 found c = c.place.ensures ∙ ap (place_of 10) (rest c.args.s.now c.args.at)

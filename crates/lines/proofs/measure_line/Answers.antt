@@ -6,6 +6,7 @@ use native.Mathlib.Omega.{arith}
 use Rattle.lines.proofs.Spans.{span_within, no_measure_span, no_name, a_name}
 use borrow.Author.Rules.{rules}
 use Rattle.lines.proofs.measure_line.Goals as goal
+use Rattle.lines.proofs.measure_line.Goals.{In-Of}
 
 lies : (c : goal.In-Of) → (c.in-Of.a ≤ c.in-Of.e) × (c.in-Of.e < length c.args.s.now)
 lies c =

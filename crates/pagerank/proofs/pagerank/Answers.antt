@@ -10,6 +10,7 @@ use Rattle.pagerank.specs.PageRank.{pagerank_tests, pagerank_outcome}
 use Rattle.links.proofs.Ending.{prepare_pre, write_pre}
 use Rattle.pagerank.proofs.Ending.{answered, ready, fits, divide_pre, run_pre, moved, ended}
 use Rattle.pagerank.proofs.pagerank.Goals as goal
+use Rattle.pagerank.proofs.pagerank.Goals.{Else-refuses, Start}
 
 -- what the call is given
 abbrev here : goal.Start → Given (List Float)

@@ -12,6 +12,7 @@ use Rattle.pair_search.specs.Pairs.{TrackedPairs}
 use Rattle.pair_search.proofs.Runs.{RunPairs, run_pairs_none, run_pairs_visiting, run_pairs_step}
 use borrow.Author.Rules.{rules}
 use Rattle.pair_search.proofs.search_on.Goals as goal
+use Rattle.pair_search.proofs.search_on.Goals.{At-loop-head}
 
 -- where the search stands, for the graph that the caller has
 here : (c : goal.At-loop-head) → Run (graph_of c.args.nodes c.requires.visit.directed c.requires.visit.edges) c.args.limit c.requires.visit.start c.args.distances c.args.queue c.args.first c.args.last c.args.base c.args.w32.now c.args.w64.now c.loop-head.w32 c.loop-head.w64 c.loop-head.head c.loop-head.tail

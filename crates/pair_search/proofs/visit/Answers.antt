@@ -13,6 +13,7 @@ use Rattle.predecessors.proofs.Tours.{reads_in, place_fits}
 use Rattle.pair_search.proofs.Tours.{TourPairs, pairs_none, pairs_pre, pairs_in_rows, pairs_row_in, pairs_step, pairs_stays, pairs_paths, pairs_end, pairs_done}
 use borrow.Author.Rules.{rules}
 use Rattle.pair_search.proofs.visit.Goals as goal
+use Rattle.pair_search.proofs.visit.Goals.{At-loop-p}
 
 -- where the walk stands, for the graph that the caller has
 here : (c : goal.At-loop-p) → TourPairs (graph_of c.args.nodes c.requires.visit.directed c.requires.visit.edges) c.args.limit c.requires.visit.start c.args.distances c.args.queue c.args.beside c.args.first c.args.last c.args.pairs c.args.base c.args.head c.args.tail c.args.w32.now c.args.w64.now (get_or c.args.w32.now (c.args.queue + c.args.head) 0) (get_or c.args.w32.now (c.args.distances + get_or c.args.w32.now (c.args.queue + c.args.head) 0) 0 + 1) (get_or c.args.w64.now (get_or c.args.w32.now (c.args.queue + c.args.head) 0) 0) c.loop-p.w32 c.loop-p.w64 c.loop-p.p c.loop-p.place

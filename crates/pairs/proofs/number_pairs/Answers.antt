@@ -6,6 +6,7 @@ use lib.ListN.{get_or}
 use Rattle.pairs.specs.Numbers.{RowPre}
 use Rattle.pairs.proofs.Numbering.{RowsSeen, rows_none, pre_filled, row_pre, rows_more, rows_done}
 use Rattle.pairs.proofs.number_pairs.Goals as goal
+use Rattle.pairs.proofs.number_pairs.Goals.{In-loop-v}
 
 -- in a turn
 here : (c : goal.In-loop-v)

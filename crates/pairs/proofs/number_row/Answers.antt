@@ -5,6 +5,7 @@ use native.Mathlib.Omega.{arith}
 use lib.ListN.{length-set}
 use Rattle.pairs.proofs.Numbering.{RowSeen, RowTurn, row_none, row_turn, place_low, row_more, row_done}
 use Rattle.pairs.proofs.number_row.Goals as goal
+use Rattle.pairs.proofs.number_row.Goals.{In-loop-p}
 
 -- in a turn
 here : (c : goal.In-loop-p) → RowTurn c.args.nodes c.args.e c.loop-p.p c.args.beside c.args.marks c.loop-p.w32

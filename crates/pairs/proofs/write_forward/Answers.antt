@@ -6,6 +6,7 @@ use lib.ListN.{length, length-set}
 use Rattle.pairs.specs.Writes.{total_of}
 use Rattle.pairs.proofs.Walking.{Results, results_none, Moved, moved_none, ForwardTurn, forward_turn, forward_moved, forward_more, forward_done}
 use Rattle.pairs.proofs.write_forward.Goals as goal
+use Rattle.pairs.proofs.write_forward.Goals.{In-loop-e}
 
 -- in a turn
 here : (c : goal.In-loop-e)

@@ -10,6 +10,7 @@ use Rattle.personalized_pagerank.specs.Personalized.{personal_tests, personalize
 use Rattle.links.proofs.Ending.{prepare_pre, write_pre}
 use Rattle.personalized_pagerank.proofs.Personal.{personal_answered, personal_ready, personal_fits, personal_pre, personal_run_pre, personal_moved, personal_ended}
 use Rattle.personalized_pagerank.proofs.personalized_pagerank.Goals as goal
+use Rattle.personalized_pagerank.proofs.personalized_pagerank.Goals.{Else-refuses, Start}
 
 -- what the call is given
 abbrev here : goal.Start → Given (List Float)

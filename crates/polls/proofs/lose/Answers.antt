@@ -11,6 +11,7 @@ use Rattle.polls.specs.Votes.{weaker}
 use Rattle.polls.proofs.Voting.{weaker_more}
 use borrow.Author.Rules.{rules}
 use Rattle.polls.proofs.lose.Goals as goal
+use Rattle.polls.proofs.lose.Goals.{In-loop-k}
 
 pub row_length-entries-requires : goal.row_length-entries-requires
 row_length-entries-requires c = (c.requires.fit, c.requires.node)

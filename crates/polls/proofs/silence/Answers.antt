@@ -8,6 +8,7 @@ use Rattle.polls.specs.Steps.{Silenced}
 use Rattle.polls.proofs.Voting.{silenced_none, silenced_more}
 use borrow.Author.Rules.{rules}
 use Rattle.polls.proofs.silence.Goals as goal
+use Rattle.polls.proofs.silence.Goals.{In-loop-i}
 
 pub loop-i-init : goal.loop-i-init
 loop-i-init c = (omega arith, silenced_none _ _ _)
@@ -39,4 +40,4 @@ shape_of-w c = c.loop-i.invariant.1.frame.long
 pub returns : goal.returns
 returns c =
     let e : c.loop-i.i ≡ c.args.k = omega arith in
-    rw e c c.loop-i.invariant.1
+    rw e at c.loop-i.invariant.1

@@ -10,6 +10,7 @@ use Rattle.predecessors.specs.Tracks.{Tracked}
 use Rattle.predecessors.proofs.Tours.{Run, run_none, run_visiting, run_stays, run_step, run_paths}
 use borrow.Author.Rules.{rules}
 use Rattle.predecessors.proofs.search_on.Goals as goal
+use Rattle.predecessors.proofs.search_on.Goals.{At-loop-head}
 
 -- where the search stands, for the graph that the caller has
 here : (c : goal.At-loop-head) → Run (graph_of c.args.nodes c.requires.directed c.requires.edges) c.args.limit c.requires.start c.args.distances c.args.queue c.args.first c.args.last c.args.base c.args.w32.now c.args.w64.now c.loop-head.w32 c.loop-head.w64 c.loop-head.head c.loop-head.tail

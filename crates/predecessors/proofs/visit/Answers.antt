@@ -12,6 +12,7 @@ use Rattle.predecessors.specs.Tracks.{Tracked}
 use Rattle.predecessors.proofs.Tours.{Tour, reads_in, tour_none, in_rows, tour_pre, tour_stays, tour_step, tour_paths, place_fits, tour_done}
 use borrow.Author.Rules.{rules}
 use Rattle.predecessors.proofs.visit.Goals as goal
+use Rattle.predecessors.proofs.visit.Goals.{At-loop-p}
 
 -- where the walk stands, for the graph that the caller has
 here : (c : goal.At-loop-p) → Tour (graph_of c.args.nodes c.requires.directed c.requires.edges) c.args.limit c.requires.start c.args.distances c.args.queue c.args.first c.args.last c.args.base c.args.head c.args.w32.now c.args.w64.now (get_or c.args.w32.now (c.args.queue + c.args.head) 0) (get_or c.args.w32.now (c.args.distances + get_or c.args.w32.now (c.args.queue + c.args.head) 0) 0 + 1) (get_or c.args.w64.now (get_or c.args.w32.now (c.args.queue + c.args.head) 0) 0) c.loop-p.w32 c.loop-p.w64 c.loop-p.p c.loop-p.place

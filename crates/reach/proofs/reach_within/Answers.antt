@@ -12,6 +12,7 @@ use Rattle.reach.proofs.Walks.{Starts, starts}
 use Rattle.reach.proofs.Within.{Going, going_none, spread_pre, going_stop, going_more}
 use borrow.Author.Rules.{rules}
 use Rattle.reach.proofs.reach_within.Goals as goal
+use Rattle.reach.proofs.reach_within.Goals.{At-loop-head, In-loop-head}
 
 -- where the search stands, for the graph that the caller has
 here : (c : goal.At-loop-head) → Going (graph_of c.args.nodes c.requires.directed c.requires.edges) c.args.limit c.requires.start c.args.distances c.args.queue c.args.w.now c.loop-head.w c.loop-head.head c.loop-head.tail

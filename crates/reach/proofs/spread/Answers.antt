@@ -9,6 +9,7 @@ use Rattle.reach.specs.Search.{Walk}
 use Rattle.reach.proofs.Walks.{Spreading, spreading_none, place_in, spreading_done, entry_in, meet_pre, spreading_more, grows_by, starts}
 use borrow.Author.Rules.{rules}
 use Rattle.reach.proofs.spread.Goals as goal
+use Rattle.reach.proofs.spread.Goals.{At-loop-p}
 
 -- where the walk stands, for the graph that the caller has
 here : (c : goal.At-loop-p) → Spreading (graph_of c.args.nodes c.requires.directed c.requires.edges) c.requires.start c.args.distances c.args.queue c.requires.head c.args.w.now c.args.u c.args.further c.loop-p.w c.loop-p.p c.loop-p.place

@@ -7,6 +7,7 @@ use Rattle.graph.proofs.Refusals.{passed}
 use Rattle.laplacian.proofs.Steps.{score_tests, ready, build_pre}
 use Rattle.reaching.proofs.Reached.{turned_away, fill_room, all_pre, roomy, ended}
 use Rattle.reaching.proofs.local_reaching.Goals as goal
+use Rattle.reaching.proofs.local_reaching.Goals.{Else-refuses, Start}
 
 -- what the call is given
 abbrev here : goal.Start → Given (List Float)

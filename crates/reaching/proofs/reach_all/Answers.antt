@@ -8,6 +8,7 @@ use Rattle.reach.specs.Search.{Ground}
 use Rattle.reaching.specs.Reaching.{reach_score}
 use Rattle.reaching.proofs.Starting.{Scoring, scoring_none, from_pre, undo_this, counted, kept_on, scoring_more}
 use Rattle.reaching.proofs.reach_all.Goals as goal
+use Rattle.reaching.proofs.reach_all.Goals.{At-loop-s}
 
 -- where the starts stand, for the graph that the caller has
 here : (c : goal.At-loop-s) → Scoring (graph_of c.args.nodes c.requires.directed c.requires.edges) c.args.limit c.args.distances c.args.queue c.args.scores.now c.loop-s.w c.loop-s.scores c.loop-s.s

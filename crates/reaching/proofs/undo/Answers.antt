@@ -43,4 +43,4 @@ shape_of-w c = c.loop-i.invariant.1.long
 pub returns : goal.returns
 returns c =
     let e : c.loop-i.i ≡ c.args.tail = omega arith in
-    rw e c c.loop-i.invariant.1
+    rw e at c.loop-i.invariant.1

@@ -16,4 +16,4 @@ loop-i-preserved c = (omega arith, filled_more c.loop-i.invariant.1 (omega arith
 pub returns : goal.returns
 returns c =
     let e : c.loop-i.i ≡ c.args.len = omega arith in
-    rw e c c.loop-i.invariant.1
+    rw e at c.loop-i.invariant.1

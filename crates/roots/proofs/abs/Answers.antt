@@ -6,6 +6,7 @@ use lib.Ieee.{binary64, fits, to_bits}
 use Rattle.roots.proofs.Doubles.{masked}
 use Rattle.roots.proofs.Absolute.{is_nan_lem, not_nan, abs_nan, abs_of_lem, small_bits}
 use Rattle.roots.proofs.abs.Goals as goal
+use Rattle.roots.proofs.abs.Goals.{Start}
 
 held : (c : goal.Start) → T (fits binary64 c.args.x)
 held c = subst T (sym c.well_formed.0.1) tt

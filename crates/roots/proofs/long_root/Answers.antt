@@ -6,6 +6,7 @@ use lib.Bits.{bit_and, and_mask}
 use Rattle.roots.proofs.Squares.{is_isqrt}
 use Rattle.roots.proofs.Digits.{Taken, none, one, zero, all, below}
 use Rattle.roots.proofs.long_root.Goals as goal
+use Rattle.roots.proofs.long_root.Goals.{In-loop-i}
 
 -- q in a turn
 small : (c : goal.In-loop-i) → c.loop-i.q < 2 ^ 54

@@ -5,6 +5,7 @@ use lib.Ieee.{binary64, fits}
 use Rattle.roots.proofs.Absolute.{is_nan_lem, not_nan}
 use Rattle.roots.proofs.Maximum.{max_less, max_nan, max_more, equal_numbers, max_equal_negative, max_equal}
 use Rattle.roots.proofs.max.Goals as goal
+use Rattle.roots.proofs.max.Goals.{Start}
 
 held : (c : goal.Start) → T (fits binary64 c.args.a)
 held c = subst T (sym c.well_formed.0.1) tt

@@ -9,6 +9,7 @@ use Rattle.roots.specs.Root.{round_root, root_at}
 use Rattle.roots.proofs.Doubles.{no_nan}
 use Rattle.roots.proofs.Nearest.{shifted, half}
 use Rattle.roots.proofs.root_at.Goals as goal
+use Rattle.roots.proofs.root_at.Goals.{After-rounded_root-root, Start}
 
 -- the shift loses nothing
 kept : (c : goal.Start) → c.args.a * 2 ^ (c.args.e % 2) % 2 ^ 64 ≡ c.args.a * 2 ^ (c.args.e % 2)

@@ -8,6 +8,7 @@ use lib.Count.{count_leading_zeros, leading_le}
 use Rattle.roots.specs.Root.{root_at, root_of}
 use Rattle.roots.proofs.Lifted.{Lifted, lifted}
 use Rattle.roots.proofs.root_of.Goals as goal
+use Rattle.roots.proofs.root_of.Goals.{Then-exponent-eq0}
 
 low-root : (e t : ℕ) → e ≡ 0 → Lifted t (count_leading_zeros 64 t - 11) → root_at (t * 2 ^ (count_leading_zeros 64 t - 11) % 2 ^ 64) (1022 - (count_leading_zeros 64 t - 11)) ≡ root_of e t
 unfolding root_of

@@ -13,6 +13,7 @@ use Rattle.roots.proofs.Absolute.{is_nan_lem, not_nan, small_bits}
 use Rattle.roots.proofs.Fields.{Bits}
 use Rattle.roots.proofs.Sorts.{nan_root, Zero, zero_root, less_root, inf_root, left_over, Above, above_bits, above_root, sqrt_of_is}
 use Rattle.roots.proofs.sqrt.Goals as goal
+use Rattle.roots.proofs.sqrt.Goals.{Else-exponent-eq-EXPONENT, Else-exponent-fraction-eq0, Else-x, Start}
 
 held : (c : goal.Start) → T (fits binary64 c.args.x)
 held c = subst T (sym c.well_formed.0.1) tt

@@ -11,6 +11,7 @@ use Rattle.graph.proofs.Refusals.{early, late}
 use Rattle.rounds.specs.Tests.{own_tests}
 use Rattle.rounds.proofs.Tests.{without_stray}
 use Rattle.rounds.proofs.refusal.Goals as goal
+use Rattle.rounds.proofs.refusal.Goals.{Else-refuses, Start}
 
 -- the rows that can hold of this call
 abbrev tests : goal.Start → Tests

@@ -9,6 +9,7 @@ use Rattle.hops.specs.Search.{graph_of, Search}
 use Rattle.search.proofs.Runs.{Run, run_none, run_visiting, run_kept, run_step, run_paths}
 use borrow.Author.Rules.{rules}
 use Rattle.search.proofs.search_on.Goals as goal
+use Rattle.search.proofs.search_on.Goals.{At-loop-head}
 
 -- where the search stands, for the graph that the caller has
 here : (c : goal.At-loop-head) → Run (graph_of c.args.nodes c.requires.directed c.requires.edges) c.args.limit c.requires.start c.args.distances c.args.queue c.args.w.now c.args.counts.now c.loop-head.w c.loop-head.counts c.loop-head.head c.loop-head.tail

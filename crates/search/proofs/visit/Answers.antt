@@ -10,6 +10,7 @@ use Rattle.hops.specs.Search.{graph_of, Search}
 use Rattle.hops.proofs.Scans.{Scan, begun, grown_most, scan_none, in_rows, scan_pre, scan_kept, scan_step, scan_paths, place_fits, scan_done}
 use borrow.Author.Rules.{rules}
 use Rattle.search.proofs.visit.Goals as goal
+use Rattle.search.proofs.visit.Goals.{At-loop-p}
 
 -- where the walk stands, for the graph that the caller has
 here : (c : goal.At-loop-p) → Scan (graph_of c.args.nodes c.requires.directed c.requires.edges) c.args.limit c.requires.start c.args.distances c.args.queue c.args.head c.args.w.now c.args.counts.now (get_or c.args.w.now (c.args.queue + c.args.head) 0) (get_or c.args.w.now (c.args.distances + get_or c.args.w.now (c.args.queue + c.args.head) 0) 0 + 1) (get_or c.args.counts.now (get_or c.args.w.now (c.args.queue + c.args.head) 0) 0) c.loop-p.w c.loop-p.counts c.loop-p.p c.loop-p.place

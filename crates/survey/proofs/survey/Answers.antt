@@ -9,6 +9,7 @@ use Rattle.graph.proofs.Refusals.{plain_tests}
 use Rattle.survey.specs.Survey.{Results, results, too_short}
 use Rattle.survey.proofs.Ending.{refused_survey, passed_survey, limits, build_pre, held, write_pre, wipe_pre, ended}
 use Rattle.survey.proofs.survey.Goals as goal
+use Rattle.survey.proofs.survey.Goals.{Else-refuses, Start}
 
 -- what the call is given
 abbrev here : goal.Start → Given Results

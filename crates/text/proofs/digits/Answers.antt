@@ -7,6 +7,7 @@ use Rattle.text.specs.Text.{digit_of, digits_from}
 use Rattle.text.proofs.Numbers.{too_large, fits_still, more, no_digit, ended, stays_large}
 use borrow.Author.Rules.{rules}
 use Rattle.text.proofs.digits.Goals as goal
+use Rattle.text.proofs.digits.Goals.{Else-d-base}
 
 fits : (c : goal.Else-d-base) → c.loop-i.v * c.args.base + c.digit-d.result < 2 ^ 64
 fits c =

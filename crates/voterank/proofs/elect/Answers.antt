@@ -3,6 +3,7 @@ use Rattle.std.proofs.Common.{◌≡◌, ℕ, ◌-◌, ◌*◌, ◌≤◌, [], l
 use lib.Ieee.{of_bits}
 use Rattle.voterank.proofs.Polling.{Polling, polling_none, tally_pre, silence_pre, highest_pre, weaken_pre, polling_more, polling_stop, polling_all}
 use Rattle.voterank.proofs.elect.Goals as goal
+use Rattle.voterank.proofs.elect.Goals.{After-first_highest-v}
 
 pub loop-k-init : goal.loop-k-init
 loop-k-init c = polling_none _ _ _ _ _ _ _ _ _ _ c.requires

@@ -8,6 +8,7 @@ use Rattle.laplacian.proofs.Steps.{build_pre}
 use Rattle.voterank.specs.VoteRank.{seats_of}
 use Rattle.voterank.proofs.Closing.{seat_tests, turned_away, ready, fill_pre, elect_pre, roomy, ended}
 use Rattle.voterank.proofs.voterank.Goals as goal
+use Rattle.voterank.proofs.voterank.Goals.{Else-refuses, Start}
 
 -- what the call is given
 abbrev here : goal.Start → Given (List ℕ)
