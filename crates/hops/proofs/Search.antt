@@ -34,8 +34,11 @@ get_or_mem (x ∷ xs) zero h = Memᴰ.head refl
 get_or_mem (x ∷ xs) (suc j) h = Memᴰ.tail (get_or_mem xs j (omega arith))
 
 pub mem_get_or : (l : List ℕ) (x : ℕ) → Memᴰ x l → (j : ℕ) × (j < length l) × (get_or l j 0 ≡ x)
-mem_get_or l x (Memᴰ.head {x = y} {xs} e) = (0, omega arith, sym e)
-mem_get_or l x (Memᴰ.tail {x = y} {xs} m) = let r = mem_get_or xs x m in (suc r.0, omega (arith, r.1), r.2)
+mem_get_or l x m = go x l m
+  where
+    go : (u : ℕ) (xs : List ℕ) → Memᴰ u xs → (j : ℕ) × (j < length xs) × (get_or xs j 0 ≡ u)
+    go u xs (Memᴰ.head {x = y} {xs = ys} e) = (0, omega arith, sym e)
+    go u xs (Memᴰ.tail {x = y} {xs = ys} m) = let r = go u ys m in (suc r.0, omega (arith, r.1), r.2)
 
 pub take_times : (k : ℕ) (l : List ℕ) (v : ℕ) → times v (take k l) ≤ times v l
 unfolding sum_over

@@ -161,8 +161,11 @@ sum_cong_mem (x ∷ xs) e = ap₂ ◌+◌ (e x (Memᴰ.head refl)) (sum_cong_mem
 
 pub mem_times : (xs : List ℕ) (v : ℕ) → Memᴰ v xs → 0 < times v xs
 unfolding sum_over
-mem_times xs v (Memᴰ.head {x} {xs = ys} e) = omega (arith, same_yes (sym e))
-mem_times xs v (Memᴰ.tail {x} {xs = ys} m) = omega (arith, mem_times ys v m)
+mem_times xs v m = go v xs m
+  where
+    go : (u : ℕ) (l : List ℕ) → Memᴰ u l → 0 < times u l
+    go u l (Memᴰ.head {x} {xs = ys} e) = omega (arith, same_yes (sym e))
+    go u l (Memᴰ.tail {x} {xs = ys} m) = omega (arith, go u ys m)
 
 pub times_mem : (xs : List ℕ) (v : ℕ) → 0 < times v xs → Memᴰ v xs
 unfolding sum_over

@@ -30,3 +30,9 @@ overflow_add-result c = omega (arith, (lies (goal.at.overflow_add-result c).In-O
 pub returns : goal.returns
 returns c =
     sym (a_number bits_of c.args.s.now (sym c.value_of.ensures ∙ c.in-Of.is) (sym c.bits.ensures ∙ c.in-Is.is))
+
+pub slice_bounds-bits-start : goal.slice_bounds-bits-start
+slice_bounds-bits-start c = (lies (goal.at.slice_bounds-bits-start c).In-Of).0
+
+pub slice_bounds-bits-end : goal.slice_bounds-bits-end
+slice_bounds-bits-end c = omega (arith, (lies (goal.at.slice_bounds-bits-end c).In-Of).1)

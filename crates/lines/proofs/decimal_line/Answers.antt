@@ -30,3 +30,9 @@ overflow_add-result c = omega (arith, (lies (goal.at.overflow_add-result c).In-O
 pub returns : goal.returns
 returns c =
     sym (a_number decimal_of c.args.s.now (sym c.value_of.ensures ∙ c.in-Of.is) (sym c.decimal.ensures ∙ c.in-Is.is))
+
+pub slice_bounds-decimal-start : goal.slice_bounds-decimal-start
+slice_bounds-decimal-start c = (lies (goal.at.slice_bounds-decimal-start c).In-Of).0
+
+pub slice_bounds-decimal-end : goal.slice_bounds-decimal-end
+slice_bounds-decimal-end c = omega (arith, (lies (goal.at.slice_bounds-decimal-end c).In-Of).1)

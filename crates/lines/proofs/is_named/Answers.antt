@@ -14,4 +14,4 @@ pub slice_bounds-is_word-end : goal.slice_bounds-is_word-end
 slice_bounds-is_word-end c = sym (length-take-le _ _ c.name-word.ensures.short)
 
 pub returns : goal.returns
-returns c = c.UNKNOWN-is_IsWord.ensures ∙ ap (λ (w : List ℕ). is_word w c.args.s.now) c.name-word.ensures.same
+returns c = c.is_word.ensures ∙ ap (λ (w : List ℕ). is_word w c.args.s.now) c.name-word.ensures.same

@@ -28,3 +28,9 @@ overflow_add-result c = omega (arith, (lies (goal.at.overflow_add-result c).In-O
 
 pub returns : goal.returns
 returns c = sym (a_number kind_of c.args.s.now (sym c.value_of.ensures ∙ c.in-Of.is) (sym c.kind_named.ensures ∙ c.in-Is.is))
+
+pub slice_bounds-kind_named-start : goal.slice_bounds-kind_named-start
+slice_bounds-kind_named-start c = (lies (goal.at.slice_bounds-kind_named-start c).In-Of).0
+
+pub slice_bounds-kind_named-end : goal.slice_bounds-kind_named-end
+slice_bounds-kind_named-end c = omega (arith, (lies (goal.at.slice_bounds-kind_named-end c).In-Of).1)

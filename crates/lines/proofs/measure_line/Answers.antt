@@ -26,3 +26,9 @@ overflow_add-result c = omega (arith, (lies (goal.at.overflow_add-result c).In-O
 
 pub returns : goal.returns
 returns c = sym (a_name c.args.s.now (sym c.value_of.ensures ∙ c.in-Of.is) (sym c.measure_named.ensures ∙ c.in-Measured.is))
+
+pub slice_bounds-measure_named-start : goal.slice_bounds-measure_named-start
+slice_bounds-measure_named-start c = (lies (goal.at.slice_bounds-measure_named-start c).In-Of).0
+
+pub slice_bounds-measure_named-end : goal.slice_bounds-measure_named-end
+slice_bounds-measure_named-end c = omega (arith, (lies (goal.at.slice_bounds-measure_named-end c).In-Of).1)

@@ -27,7 +27,7 @@ entry-u-requires c = (c.requires.fit, c.requires.node, more (goal.at.entry-u-req
 
 -- the entry that is read is a node
 node : (c : goal.In-loop-k) (u : ℕ) → u ≡ get_or (row_at c.args.nodes c.args.rows.now c.args.v) c.loop-k.k 0 → u < length c.loop-k.w
-node c u e = omega (arith, e, c.UNKNOWN-pre.fit.nodes c.args.v c.loop-k.k c.UNKNOWN-pre.node (more c), c.UNKNOWN-pre.room, c.loop-k.invariant.1)
+node c u e = omega (arith, e, c.requires.fit.nodes c.args.v c.loop-k.k c.requires.node (more c), c.requires.room, c.loop-k.invariant.1)
 
 pub offset_bounds-w-u : goal.offset_bounds-w-u
 offset_bounds-w-u c = omega (arith, node (goal.at.offset_bounds-w-u c).In-loop-k _ c.entry-u.ensures)
