@@ -8,17 +8,11 @@ use Rattle.job.proofs.answer_job.Goals as goal
 pub put_refusal-requires : goal.put_refusal-requires
 put_refusal-requires c = c.requires.0
 
-pub shape_of-output-then-top : goal.shape_of-output-then-top
-shape_of-output-then-top c = c.put_refusal.auto.0
-
 pub returns-then-top : goal.returns-then-top
 returns-then-top c = as_written (too_many_nodes _ _ _ _ c.if-top.true) c.put_refusal.ensures
 
 pub put_refusal-requires-then-head : goal.put_refusal-requires-then-head
 put_refusal-requires-then-head c = c.requires.0
-
-pub shape_of-output-then-head : goal.shape_of-output-then-head
-shape_of-output-then-head c = c.put_refusal-then-head.auto.0
 
 pub returns-then-head : goal.returns-then-head
 returns-then-head c = as_written (too_many_edges _ _ _ _ c.if-top.false c.if-head.true) c.put_refusal-then-head.ensures
@@ -36,9 +30,6 @@ pub score_job-requires : goal.score_job-requires
 score_job-requires c =
     let few = c.if-head.false in
     (c.requires.0, record { nodes_few = c.if-top.false; edges_few = taken_few c.args.head.edges c.args.bits.now few })
-
-pub shape_of-output : goal.shape_of-output
-shape_of-output c = c.score_job.auto.1.1.1.1.1.0
 
 pub returns : goal.returns
 returns c = as_written (of_measure _ _ _ _ c.if-top.false c.if-head.false) c.score_job.ensures

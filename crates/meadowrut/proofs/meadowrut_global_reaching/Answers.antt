@@ -2,23 +2,5 @@
 use Rattle.graph.proofs.Left.{in_numbers_lem}
 use Rattle.meadowrut.proofs.meadowrut_global_reaching.Goals as goal
 
-pub global_reaching-requires : goal.global_reaching-requires
-global_reaching-requires c = tt
-
-pub plain_number-requires : goal.plain_number-requires
-plain_number-requires c = tt
-
-pub shape_of-scores : goal.shape_of-scores
-shape_of-scores c = c.global_reaching.auto.1.1.1.1.1.0
-
-pub shape_of-w32 : goal.shape_of-w32
-shape_of-w32 c = c.global_reaching.auto.1.1.1.1.1.1.0
-
-pub shape_of-w64 : goal.shape_of-w64
-shape_of-w64 c = c.global_reaching.auto.1.1.1.1.1.1.1.0
-
-pub shape_of-wf : goal.shape_of-wf
-shape_of-wf c = c.global_reaching.auto.1.1.1.1.1.1.1.1.0
-
 pub returns : goal.returns
 returns c = in_numbers_lem c.plain_number.ensures c.global_reaching.ensures

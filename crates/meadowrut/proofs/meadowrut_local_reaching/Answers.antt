@@ -2,23 +2,5 @@
 use Rattle.graph.proofs.Left.{in_numbers_lem}
 use Rattle.meadowrut.proofs.meadowrut_local_reaching.Goals as goal
 
-pub local_reaching-requires : goal.local_reaching-requires
-local_reaching-requires c = tt
-
-pub plain_number-requires : goal.plain_number-requires
-plain_number-requires c = tt
-
-pub shape_of-scores : goal.shape_of-scores
-shape_of-scores c = c.local_reaching.auto.1.1.1.1.1.1.0
-
-pub shape_of-w32 : goal.shape_of-w32
-shape_of-w32 c = c.local_reaching.auto.1.1.1.1.1.1.1.0
-
-pub shape_of-w64 : goal.shape_of-w64
-shape_of-w64 c = c.local_reaching.auto.1.1.1.1.1.1.1.1.0
-
-pub shape_of-wf : goal.shape_of-wf
-shape_of-wf c = c.local_reaching.auto.1.1.1.1.1.1.1.1.1.0
-
 pub returns : goal.returns
 returns c = in_numbers_lem c.plain_number.ensures c.local_reaching.ensures

@@ -2,14 +2,5 @@
 use Rattle.graph.proofs.Left.{in_numbers_lem}
 use Rattle.meadowrut.proofs.meadowrut_out_degree.Goals as goal
 
-pub out_degree-requires : goal.out_degree-requires
-out_degree-requires c = tt
-
-pub plain_number-requires : goal.plain_number-requires
-plain_number-requires c = tt
-
-pub shape_of-scores : goal.shape_of-scores
-shape_of-scores c = c.out_degree.auto.1.1.1.1.1.0
-
 pub returns : goal.returns
 returns c = in_numbers_lem c.plain_number.ensures c.out_degree.ensures

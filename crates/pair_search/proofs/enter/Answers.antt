@@ -9,9 +9,6 @@ use Rattle.pair_search.proofs.enter.Goals as goal
 pub enter-step-requires : goal.enter-step-requires
 enter-step-requires c = c.requires.enter
 
-pub overflow_cast-w32 : goal.overflow_cast-w32
-overflow_cast-w32 c = omega (arith, c.type_inv.w32 (c.args.last + c.args.x))
-
 pub overflow_add-w32 : goal.overflow_add-w32
 overflow_add-w32 c = omega (arith, pair_slot c.requires c.enter-step.result c.enter-step.ensures (sym c.enters.ensures ∙ c.if-enters.true), enter_long c.enter-step.result c.enter-step.ensures, c.well_formed, c.ranges)
 

@@ -44,9 +44,6 @@ offset_bounds-w32-at c = omega (arith, here (goal.at.offset_bounds-w32-at c).In-
 pub bounds-w32-at : goal.bounds-w32-at
 bounds-w32-at c = omega (arith, here (goal.at.bounds-w32-at c).In-loop-p)
 
-pub first_place-place-requires : goal.first_place-place-requires
-first_place-place-requires c = tt
-
 pub overflow_add-w32 : goal.overflow_add-w32
 overflow_add-w32 c = omega (arith, here (goal.at.overflow_add-w32 c).In-loop-p, place_low c.requires c.loop-p.invariant.0 c.loop-p-test.true c.loop-p.invariant.2 c.first_place-place.result c.first_place-place.ensures)
 

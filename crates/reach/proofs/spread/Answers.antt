@@ -63,12 +63,12 @@ meet-more-requires c = meet_pre (here (goal.at.meet-more-requires c).At-loop-p) 
 pub overflow_add-place-in-loop-p : goal.overflow_add-place-in-loop-p
 overflow_add-place-in-loop-p c =
     let l = c.loop-p-test.true in
-    omega (arith, grows_by (here (goal.at.overflow_add-place-in-loop-p c).At-loop-p) l c.meet-more.ensures, entry_in (here (goal.at.overflow_add-place-in-loop-p c).At-loop-p) l, place_in (here (goal.at.overflow_add-place-in-loop-p c).At-loop-p), (here (goal.at.overflow_add-place-in-loop-p c).At-loop-p).scan.auto.narrow.long)
+    omega (arith, grows_by (here (goal.at.overflow_add-place-in-loop-p c).At-loop-p) l c.meet-more.ensures, entry_in (here (goal.at.overflow_add-place-in-loop-p c).At-loop-p) l, place_in (here (goal.at.overflow_add-place-in-loop-p c).At-loop-p), (here (goal.at.overflow_add-place-in-loop-p c).At-loop-p).scan.kept.narrow.long)
 
 pub overflow_add-p-in-loop-p : goal.overflow_add-p-in-loop-p
 overflow_add-p-in-loop-p c =
     let l = c.loop-p-test.true in
-    omega (arith, grows_by (here (goal.at.overflow_add-p-in-loop-p c).At-loop-p) l c.meet-more.ensures, entry_in (here (goal.at.overflow_add-p-in-loop-p c).At-loop-p) l, place_in (here (goal.at.overflow_add-p-in-loop-p c).At-loop-p), (here (goal.at.overflow_add-p-in-loop-p c).At-loop-p).scan.auto.narrow.long)
+    omega (arith, grows_by (here (goal.at.overflow_add-p-in-loop-p c).At-loop-p) l c.meet-more.ensures, entry_in (here (goal.at.overflow_add-p-in-loop-p c).At-loop-p) l, place_in (here (goal.at.overflow_add-p-in-loop-p c).At-loop-p), (here (goal.at.overflow_add-p-in-loop-p c).At-loop-p).scan.kept.narrow.long)
 
 pub loop-p-smaller : goal.loop-p-smaller
 loop-p-smaller c = omega (arith, c.loop-p-test.true)
@@ -86,7 +86,7 @@ shape_of-w c = (here (goal.at.shape_of-w c).At-loop-p).scan.kept.narrow.long
 pub returns : goal.returns
 returns c =
     record {
-      kept = (here (goal.at.returns c).At-loop-p).scan.auto.narrow;
+      kept = (here (goal.at.returns c).At-loop-p).scan.kept.narrow;
       near = (here (goal.at.returns c).At-loop-p).near;
       walked = λ directed es s head w. spreading_done (c.loop-p.invariant directed es s head w) c.loop-p-test.false;
     }

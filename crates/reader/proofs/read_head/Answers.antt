@@ -20,3 +20,8 @@ returns-in-Fault c =
 pub returns-in-Value-decimal_line : goal.returns-in-Value-decimal_line
 returns-in-Value-decimal_line c =
     sym (a_head _ (sym c.measure_line.ensures ∙ c.in-Value.is) c.most_of-most.ensures (sym c.read_top-read.ensures ∙ c.in-Read.is) (sym c.decimal_line.ensures ∙ c.in-Value-decimal_line.is))
+
+pub overflow_add-result : goal.overflow_add-result
+overflow_add-result c =
+    let below = fault_below _ _ _ (sym c.read_top-read.ensures ∙ c.in-Fault.is) in
+    omega (arith, below)

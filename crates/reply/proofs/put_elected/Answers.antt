@@ -18,7 +18,7 @@ pub loop-k-preserved : goal.loop-k-preserved
 loop-k-preserved c =
     let w = c.put_number-at in (
       omega arith,
-      w.auto.0 ∙ c.loop-k.invariant.1,
+      w.auto.output ∙ c.loop-k.invariant.1,
       omega (arith, c.loop-k.invariant.2, w.ensures.1, c.loop-k-test.true),
       one_more_line elected_text 0 _ _ _ _ _ _ _ _ c.loop-k-test.true (rw c.wide.ensures at w.ensures.0) c.loop-k.invariant.3,
     )

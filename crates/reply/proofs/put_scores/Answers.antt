@@ -17,7 +17,7 @@ put_score-at-requires c = omega (arith, c.loop-k.invariant)
 
 pub loop-k-preserved : goal.loop-k-preserved
 loop-k-preserved c =
-    (omega arith, c.put_score-at.auto.0 ∙ c.loop-k.invariant.1, omega (arith, c.loop-k.invariant.2, c.put_score-at.ensures.1, c.loop-k-test.true), one_more_line score_text nan _ _ _ _ _ _ _ _ c.loop-k-test.true c.put_score-at.ensures.0 c.loop-k.invariant.3)
+    (omega arith, c.put_score-at.auto.output ∙ c.loop-k.invariant.1, omega (arith, c.loop-k.invariant.2, c.put_score-at.ensures.1, c.loop-k-test.true), one_more_line score_text nan _ _ _ _ _ _ _ _ c.loop-k-test.true c.put_score-at.ensures.0 c.loop-k.invariant.3)
 
 pub shape_of-output : goal.shape_of-output
 shape_of-output c = c.loop-k.invariant.1

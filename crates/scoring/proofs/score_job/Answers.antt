@@ -10,9 +10,6 @@ use Rattle.scoring.proofs.score_job.Goals as goal
 pub slice_bounds-score-end : goal.slice_bounds-score-end
 slice_bounds-score-end c = sym (length-take-le _ _ (array-share-prefix-weights c))
 
-pub shape_of-output : goal.shape_of-output
-shape_of-output c = c.score.auto.1.1.1.1.1.1.1.1.1.1.0
-
 pub returns : goal.returns
 unfolding on_zeros of_bits
 returns c =
