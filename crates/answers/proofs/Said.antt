@@ -12,7 +12,7 @@ use Rattle.answers.specs.declared.Ended.{Ended}
 use Rattle.answers.specs.declared.Ended.TheVariants as ended
 use Rattle.answers.specs.declared.Elected.{Elected}
 use Rattle.answers.specs.declared.Elected.TheVariants as elected
-use Rattle.answers.specs.Answers.{number_of, Said, done, refusal, said_plain, said_ended, said_elected}
+use Rattle.answers.specs.Answers.{number_of, Said, refusal, said_plain, said_ended, said_elected}
 
 -- the answer that has a number
 abbrev named : ℕ → Answer

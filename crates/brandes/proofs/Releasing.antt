@@ -1,5 +1,5 @@
 -- Taking back what a start left: node by node of its queue, until no node has a predecessor entry or a delta. Assumes nothing.
-use Rattle.std.proofs.Common.{◌≡◌, ℕ, ◌+◌, ◌-◌, ◌<◌, ◌≢◌, ◌⊎◌, List, length, get_or, set, sym, refl, ap, ◌∙◌, inl, inr, arith, length-set}
+use Rattle.std.proofs.Common.{◌≡◌, ℕ, ◌+◌, ◌<◌, ◌≢◌, ◌⊎◌, List, length, get_or, set, sym, refl, ap, ◌∙◌, inl, inr, arith, length-set}
 use lib.Ieee.{Float, nan}
 use Rattle.regions.specs.Region.{zero_f}
 use Rattle.regions.proofs.Fronts.{hit, miss, hit_d, miss_d}

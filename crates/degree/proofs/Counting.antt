@@ -9,7 +9,7 @@ use native.Mathlib.Omega.{arith}
 use borrow.Author.Tests.{eqb-true, eqb-false}
 use lib.Dec.{eqb}
 use lib.IntN.{pos}
-use lib.ListN.{length, get_or, set, take}
+use lib.ListN.{length, get_or, take}
 use lib.Seq.{take-suc, take-length}
 use lib.Ieee.{Float, binary64, nan, add, of_int}
 use Rattle.regions.specs.Doubles.{one}

@@ -17,7 +17,7 @@ use Rattle.graph.specs.Refusals.{first_refusal}
 use Rattle.graph.specs.Left.{left}
 use Rattle.graph.proofs.Refusals.{passed}
 use Rattle.graph.proofs.Left.{no_second}
-use Rattle.rounds.specs.Rounds.{round, outcome}
+use Rattle.rounds.specs.Rounds.{round}
 use Rattle.rounds.specs.Says.{Says}
 use Rattle.rounds.specs.Ending.{settled_only}
 use Rattle.rounds.specs.Vectors.{settles}

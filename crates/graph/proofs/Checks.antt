@@ -19,7 +19,7 @@ use Rattle.graph.specs.declared.Found.{Found}
 use Rattle.graph.specs.declared.Found.TheVariants as bad
 use Rattle.graph.specs.declared.Fronts.{Fronts}
 use Rattle.answers.specs.Settings.{node_limit, edge_limit}
-use Rattle.graph.specs.Edges.{Edge, edge, edges_of}
+use Rattle.graph.specs.Edges.{Edge, edges_of}
 use Rattle.graph.specs.Checks.{size_wrong, first_fault, some_fault, node_wrong, first_odd, work_wrong}
 use Rattle.graph.specs.Pres.{Sized, AtMost, Limits, Inside, Roomy}
 use Rattle.graph.proofs.Edges.{edges_long, edges_at, edges_from_lem, no_edge}

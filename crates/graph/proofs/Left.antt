@@ -1,7 +1,7 @@
 -- Laws of `left`: the two ways through a call; a contract that equates what a call leaves with one value has no second outcome, and
 -- goes over to C's numbers. Assumes nothing.
 use mathlib.Core.Path.{◌≡◌, sym, ap, ◌∙◌}
-use mathlib.Core.Bool.{Bool, true, false}
+use mathlib.Core.Bool.{Bool, true}
 use mathlib.Core.List.{List}
 use Prim.Native.Nat.{ℕ}
 use lib.Ieee.{Float}

@@ -2,23 +2,22 @@
 -- may take for granted. Assumes nothing.
 use mathlib.Core.Path.{◌≡◌, refl, sym, ap, ◌∙◌}
 use mathlib.Core.Logic.{◌↔◌}
-use mathlib.Core.Bool.{Bool, true, false, cond, not, ◌||◌, ◌&&◌, true≢false}
-use mathlib.Core.List.{List, [], ◌∷◌, map}
-use Prim.Native.Nat.{ℕ, zero, suc, ◌+◌, ◌≤◌, ◌<◌}
+use mathlib.Core.Bool.{Bool, true, false, cond, true≢false}
+use mathlib.Core.List.{List, [], ◌∷◌}
+use Prim.Native.Nat.{ℕ, zero, suc, ◌<◌}
 use native.Mathlib.Nat.{not-suc-le-zero, le_of_suc-le-suc, zero-lt-suc}
 use native.Mathlib.Omega.{arith}
-use borrow.Author.Tests.{eqb-true, eqb-false, eq-eqb}
-use lib.Dec.{T, eqb}
+use borrow.Author.Tests.{eq-eqb}
+use lib.Dec.{eqb}
 use lib.ListN.{length, get_or}
 use lib.Ieee.{Float}
 use Rattle.answers.specs.declared.Answer.{Answer}
 use Rattle.answers.specs.declared.Answer.TheVariants.{Done, Empty, Size, Node, Number, Room, Damping, Rounds, Start, Length, Paths, Unsettled, Text}
 use Rattle.answers.specs.Answers.{number_of, refuses}
 use Rattle.graph.specs.Edges.{edges_of}
-use Rattle.graph.specs.Fronts.{usual_fronts}
 use Rattle.graph.specs.Given.{Given, edges_in}
-use Rattle.graph.specs.Checks.{size_wrong, node_wrong, work_wrong}
-use Rattle.graph.specs.Refusals.{Tests, Row, row, table, first_of, first_refusal, ends_tests, room_wrong, plainly}
+use Rattle.graph.specs.Checks.{size_wrong, node_wrong}
+use Rattle.graph.specs.Refusals.{Tests, Row, row, table, first_of, first_refusal, ends_tests, room_wrong}
 use Rattle.graph.specs.Pres.{Passed, Sound, Ready}
 use Rattle.graph.proofs.Checks.{or_left, or_right, size_sized, size_limits, node_inside, work_roomy}
 

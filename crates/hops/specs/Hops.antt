@@ -1,6 +1,6 @@
 -- Hop sequences, the fewest hops from node to node, the number of sequences of that length, and the graph with every edge turned round
 -- (Brandes 2001; document 01, "Survey"). Definitions only.
-use Rattle.std.specs.Prelude.{Bool, true, false, not, ◌||◌, ℕ, zero, suc, ◌+◌, ◌≤◌, ◌<◌, eqb, ltb, length, get_or}
+use Rattle.std.specs.Prelude.{Bool, true, false, not, ◌||◌, ℕ, zero, suc, ◌≤◌, ◌<◌, eqb, ltb, length, get_or}
 use mathlib.Core.List.{List, [], ◌∷◌, ◌++◌, map, Memᴰ}
 use Rattle.graph.specs.Edges.{Edge, edge, Graph, entries}
 use Rattle.hops.specs.Sum.{sum_over, same, only_if}

@@ -22,7 +22,6 @@ use Rattle.graph.specs.Given.{Given, graph_in}
 use Rattle.graph.specs.Refusals.{first_refusal}
 use Rattle.graph.specs.Left.{left}
 use Rattle.graph.proofs.Left.{no_second}
-use Rattle.rounds.specs.Rounds.{outcome}
 use Rattle.rounds.specs.Says.{Says}
 use Rattle.rounds.proofs.Says.{says}
 use Rattle.rounds.proofs.Rounds.{settled_holds}

@@ -1,5 +1,5 @@
 -- How `laplacian` ends: what its steps leave is the outcome. Assumes nothing.
-use Rattle.std.proofs.Common.{◌≡◌, ℕ, ◌<◌, ◌≤◌, List, length, sym, refl, ap, ◌∙◌, arith}
+use Rattle.std.proofs.Common.{◌≡◌, ℕ, List, length, ap, ◌∙◌, arith}
 use lib.Ieee.{Float}
 use Rattle.regions.specs.Region.{over, list_of}
 use Rattle.regions.proofs.Fronts.{list_same, front_none, front_wide}

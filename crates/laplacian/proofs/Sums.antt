@@ -1,5 +1,5 @@
 -- Laws of the Laplacian score: a neighbour at a time, and the same from rows that agree. Assumes nothing.
-use Rattle.std.proofs.Common.{◌≡◌, ℕ, zero, suc, ◌+◌, ◌<◌, ◌≤◌, List, [], ◌∷◌, ◌++◌, length, get_or, take, sym, refl, ap, ◌∙◌, add-one, arith, take_all, take-suc}
+use Rattle.std.proofs.Common.{◌≡◌, ℕ, suc, ◌+◌, ◌<◌, List, [], ◌∷◌, length, get_or, take, sym, refl, ap, ◌∙◌, add-one, arith, take_all, take-suc}
 use mathlib.Core.List.{foldl, foldl-append}
 use lib.Ieee.{Float, binary64, add, mul}
 use Rattle.regions.specs.Doubles.{two}

@@ -1,6 +1,6 @@
 -- Whole numbers up to 2^53 as doubles: their sums and products are not rounded as long as they stay below it, and a quotient is
 -- rounded once. `reaching` divides so. Assumes nothing.
-use Rattle.std.proofs.Common.{◌≡◌, ℕ, ◌+◌, ◌*◌, ◌^◌, ◌<◌, ◌≤◌, Bool, true, false, cond, eqb, ℤ, pos, refl, ap, ◌∙◌, true≢false, mul-pos, arith, ne_eqb}
+use Rattle.std.proofs.Common.{◌≡◌, ℕ, ◌+◌, ◌*◌, ◌^◌, ◌<◌, ◌≤◌, Bool, true, false, cond, eqb, ℤ, refl, ap, ◌∙◌, true≢false, mul-pos, arith, ne_eqb}
 use lib.Ieee.{Float, nan, inf, fin, binary64, up, down, round, sum, add, mul, div, of_int, of_bits}
 use lib.Ieee.Exact.{HasValue}
 use lib.Ieee.Back.{round_whole}

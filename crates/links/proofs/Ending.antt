@@ -17,7 +17,7 @@ use Rattle.graph.specs.Pres.{Ready, Limits}
 use Rattle.lists.specs.Lists.{share, shares_of, long_at, weight_of, BuildPre, Built, OutPre, OutWeights}
 use Rattle.lists.proofs.Reading.{shares_are}
 use Rattle.lists.proofs.Shares.{shares_built, out_weight_is}
-use Rattle.rounds.specs.Rounds.{Out, out, outcome}
+use Rattle.rounds.specs.Rounds.{Out, out}
 use Rattle.rounds.specs.Ending.{reported, scored, WritePre}
 use Rattle.rounds.specs.Vectors.{current_in}
 use Rattle.links.specs.Links.{share_in, shares_in, weights_at, outs_in}

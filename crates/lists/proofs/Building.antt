@@ -1,5 +1,5 @@
 -- The walks of `build_lists`, put together. Assumes nothing.
-use mathlib.Core.Path.{◌≡◌, refl, sym, ap, ◌∙◌}
+use mathlib.Core.Path.{◌≡◌, sym, ap, ◌∙◌}
 use mathlib.Core.Logic.{⊎_elim}
 use mathlib.Core.Bool.{Bool, true, false}
 use mathlib.Core.List.{List, map}
@@ -20,7 +20,7 @@ use Rattle.rows.proofs.Sums.{sum_same, sum_more, sum_mono}
 use Rattle.rows.proofs.Counting.{count_total}
 use Rattle.rows.proofs.Neighbours.{rows_are}
 use Rattle.rows.proofs.Building as rows
-use Rattle.lists.specs.Lists.{Place, place, place_of, place_at, long_at, list_at, lists_front, ListsFit, BuildPre, Built}
+use Rattle.lists.specs.Lists.{place, place_of, place_at, long_at, list_at, lists_front, BuildPre, Built}
 use Rattle.lists.specs.Walks.{start_of, no_entry, PlacePre, Placed}
 use Rattle.lists.proofs.Entries.{weighted_long, Good}
 use Rattle.lists.proofs.Shares.{entries_good}

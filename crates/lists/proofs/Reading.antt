@@ -5,10 +5,10 @@ use Prim.Native.Nat.{ℕ, zero, suc, ◌+◌, ◌*◌, ◌-◌, ◌≤◌, ◌<�
 use native.Mathlib.Omega.{arith}
 use lib.ListN.{length, get_or}
 use lib.Ieee.{Float, nan}
-use Rattle.regions.specs.Region.{list_of, zero_f}
+use Rattle.regions.specs.Region.{list_of}
 use Rattle.regions.proofs.Fronts.{list_more}
 use Rattle.graph.specs.Layout.{entries_at, beside_at}
-use Rattle.lists.specs.Lists.{Place, place_at, long_at, list_at, Share, share, share_at, shares_at, with_share, weight_of, ListsFit}
+use Rattle.lists.specs.Lists.{place_at, long_at, list_at, Share, share, share_at, shares_at, ListsFit}
 
 map_snoc : {A B : Type 0} (f : A → B) (l : List A) (a : A) → map f (l ++ (a ∷ [])) ≡ map f l ++ (f a ∷ [])
 map_snoc f [] a = refl

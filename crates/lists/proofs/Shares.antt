@@ -1,16 +1,16 @@
 -- The shares that a round reads in the workspace are those of the weighted lists, and their weights sum to the out-weights. Assumes nothing.
-use mathlib.Core.Path.{◌≡◌, refl, sym, ap, ◌∙◌}
+use mathlib.Core.Path.{◌≡◌, refl, ap, ◌∙◌}
 use mathlib.Core.Bool.{Bool}
 use mathlib.Core.List.{List, [], ◌∷◌, map, foldl}
-use Prim.Native.Nat.{ℕ, zero, suc, ◌+◌, ◌≤◌, ◌<◌}
+use Prim.Native.Nat.{ℕ, suc, ◌<◌}
 use native.Mathlib.Omega.{arith}
 use lib.ListN.{length, get_or}
-use lib.Ieee.{Float, nan}
+use lib.Ieee.{Float}
 use Rattle.regions.specs.Region.{zero_f}
 use Rattle.graph.specs.Edges.{Edge, Entry, toward, edges_of, weighted, with_weight, out_weight}
 use Rattle.graph.specs.Pres.{Sound}
 use Rattle.graph.proofs.Edges.{edges_long, edges_at, no_edge}
-use Rattle.lists.specs.Lists.{Place, place_of, Share, share, share_of, share_at, shares_of, shares_at, with_share, weight_of, Built}
+use Rattle.lists.specs.Lists.{place_of, Share, share, share_of, share_at, shares_of, shares_at, with_share, weight_of, Built}
 use Rattle.lists.specs.Walks.{no_entry}
 use Rattle.lists.proofs.Entries.{Good, weighted_good}
 

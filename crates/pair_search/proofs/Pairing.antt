@@ -7,7 +7,7 @@ use native.Mathlib.Omega.{arith}
 use lib.ListN.{length, get_or, length-append, get_or-append}
 use lib.Seq.{get_or_at}
 use Rattle.regions.proofs.Cases.{below_or_not}
-use Rattle.graph.specs.Edges.{Graph, entries}
+use Rattle.graph.specs.Edges.{Graph}
 use Rattle.hops.specs.Search.{RowsOf}
 use Rattle.hops.proofs.Sums.{eq_or_ne}
 use Rattle.predecessors.specs.Tracks.{leading, Slots, Holding, Stays}

@@ -6,20 +6,18 @@ use mathlib.Core.List.{List}
 use Prim.Native.Nat.{ℕ, ◌+◌, ◌-◌, ◌≤◌, ◌<◌}
 use native.Mathlib.Omega.{arith}
 use borrow.Author.Tests.{eqb-true, eqb-false}
-use lib.Dec.{eqb}
 use lib.ListN.{length, get_or, set}
-use Rattle.regions.specs.Region.{Frame2}
 use Rattle.regions.proofs.Cases.{bool_cases}
 use Rattle.regions.proofs.Fronts.{hit, miss}
-use Rattle.graph.specs.Edges.{Edge, Graph, entries}
+use Rattle.graph.specs.Edges.{Graph, entries}
 use Rattle.hops.specs.declared.Step.TheVariants.{First, Again, Other}
 use Rattle.hops.specs.Sum.{only_if}
 use Rattle.hops.specs.Hops.{unreached}
-use Rattle.hops.specs.Search.{graph_of, Search, Touched, FoundFirst, FoundAgain, PassedOver}
+use Rattle.hops.specs.Search.{Search}
 use Rattle.hops.proofs.Sums.{eq_or_ne}
-use Rattle.hops.proofs.Search.{front, before_tail, tail_most, node_lt, node_near}
+use Rattle.hops.proofs.Search.{front, tail_most, node_lt, node_near}
 use Rattle.hops.proofs.Scans.{Scan, scan_none, in_rows, scan_pre, scan_step, place_fits, scan_done}
-use Rattle.reach.specs.Search.{MeetPre, unmet, met, Met, Walk, Near, SpreadPre, SpreadPost}
+use Rattle.reach.specs.Search.{MeetPre, unmet, Met, Walk, Near}
 
 -- a higher limit
 search_more : {g : Graph} {limit s : ℕ} {w c : List ℕ} {D Q head tail u j : ℕ} (more : ℕ) → limit ≤ more → Search g limit s w c D Q head tail u j → Search g more s w c D Q head tail u j

@@ -1,31 +1,30 @@
 -- A search within a hop limit: when it ends, its queue holds the nodes within the limit, each once. Assumes nothing.
 use mathlib.Core.Path.{◌≡◌, refl, sym, ap, ◌∙◌, subst}
 use mathlib.Core.Logic.{◌≢◌, ◌⊎◌, inl, inr}
-use mathlib.Core.Bool.{Bool, true, false, not, ◌&&◌, true≢false}
-use mathlib.Core.List.{List, [], ◌∷◌, ◌++◌, Memᴰ}
-use Prim.Native.Nat.{ℕ, zero, suc, ◌+◌, ◌*◌, ◌-◌, ◌≤◌, ◌<◌}
+use mathlib.Core.Bool.{Bool, true, false, not, ◌&&◌}
+use mathlib.Core.List.{List, ◌∷◌, ◌++◌, Memᴰ}
+use Prim.Native.Nat.{ℕ, ◌+◌, ◌≤◌, ◌<◌}
 use native.Mathlib.Nat.{mul-one}
 use native.Mathlib.Omega.{arith}
-use borrow.Author.Tests.{leb-true, leb-false, le-leb}
+use borrow.Author.Tests.{leb-true, le-leb}
 use lib.Dec.{eqb, leb}
 use lib.ListN.{length, get_or, set, replicate, length-replicate, get_or-replicate}
 use Rattle.regions.specs.Region.{list_of, Frame2}
-use Rattle.regions.proofs.Cases.{bool_cases, below_or_not}
 use Rattle.regions.proofs.Fronts.{list_long, hit, miss}
 use Rattle.regions.proofs.Parts.{list_at_lem}
 use Rattle.regions.proofs.Frames.{frame2_none, frame2_then}
 use Rattle.graph.specs.Edges.{Edge, Graph, entries}
 use Rattle.hops.specs.Sum.{sum_over, below, only_if, same, times}
 use Rattle.hops.specs.Hops.{unreached, walks, dist, Valid}
-use Rattle.hops.specs.Search.{cells, graph_of, has, RowsOf, Space, Fresh, Begun, Search, Found}
+use Rattle.hops.specs.Search.{cells, graph_of, has, Space, Begun, Search}
 use Rattle.hops.proofs.Sums.{eq_or_ne, eqb_yes, eqb_no, same_yes, same_no, sum_add, sum_same, sum_times, sum_length, below_cong}
 use Rattle.hops.proofs.Dist.{Fewest, Never, fewest_dist, dist_fewest, dist_cases}
 use Rattle.hops.proofs.Steps.{has_yes, has_no, queued}
 use Rattle.hops.proofs.Partial.{within, label_dist}
-use Rattle.hops.proofs.Search.{get_or_mem, mem_get_or, queue_long, tail_most, node_lt, next_node, finish, first, begun_kept}
+use Rattle.hops.proofs.Search.{get_or_mem, mem_get_or, queue_long, tail_most, next_node, finish, first, begun_kept}
 use Rattle.reach.specs.Reach.{in_reach, others_in}
 use Rattle.reach.specs.Search.{Walk, Near, SpreadPre, SpreadPost, Within, Ground}
-use Rattle.reach.proofs.Walks.{Starts, starts}
+use Rattle.reach.proofs.Walks.{starts}
 
 -- ---- the test
 

@@ -1,5 +1,5 @@
 -- How `local_reaching` ends: refused, or with what its steps leave. Assumes nothing.
-use Rattle.std.proofs.Common.{◌≡◌, ℕ, ◌+◌, ◌*◌, ◌<◌, ◌≤◌, Bool, true, List, length, sym, refl, ap, ◌∙◌, arith}
+use Rattle.std.proofs.Common.{◌≡◌, ℕ, ◌+◌, ◌≤◌, Bool, true, List, length, ap, ◌∙◌, arith}
 use lib.Ieee.{Float}
 use Rattle.regions.specs.Region.{over, list_of, Filled}
 use Rattle.regions.proofs.Fronts.{front_none, front_wide, front_then}

@@ -1,5 +1,5 @@
 -- A search from every node: after each the workspace is as before it, and one more score stands. Assumes nothing.
-use Rattle.std.proofs.Common.{◌≡◌, ℕ, ◌+◌, ◌-◌, ◌<◌, ◌≤◌, Bool, List, length, set, sym, refl, ap, ◌∙◌, arith}
+use Rattle.std.proofs.Common.{◌≡◌, ℕ, ◌+◌, ◌-◌, ◌<◌, ◌≤◌, Bool, List, length, set, ap, ◌∙◌, arith}
 use lib.Ieee.{Float}
 use Rattle.regions.specs.Region.{over, list_of, Frame2}
 use Rattle.regions.proofs.Fronts.{results_none, results_more}

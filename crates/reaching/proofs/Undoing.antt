@@ -1,5 +1,5 @@
 -- Taking back a search within a limit, node by node of its queue: then the workspace is as before it. Assumes nothing.
-use Rattle.std.proofs.Common.{◌≡◌, ℕ, ◌+◌, ◌<◌, ◌≤◌, ◌≢◌, ◌⊎◌, List, length, get_or, set, sym, refl, ap, ◌∙◌, inl, inr, arith, length-set}
+use Rattle.std.proofs.Common.{◌≡◌, ℕ, ◌+◌, ◌<◌, ◌≢◌, ◌⊎◌, List, length, get_or, set, sym, refl, ap, ◌∙◌, inl, inr, arith, length-set}
 use Rattle.regions.specs.Region.{Frame2}
 use Rattle.regions.proofs.Fronts.{hit, miss}
 use Rattle.regions.proofs.Frames.{frame2_by}

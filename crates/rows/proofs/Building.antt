@@ -1,5 +1,5 @@
 -- The walks of `build_rows`, put together. Assumes nothing.
-use mathlib.Core.Path.{◌≡◌, refl, sym, ap, ◌∙◌}
+use mathlib.Core.Path.{◌≡◌, sym, ap, ◌∙◌}
 use mathlib.Core.Logic.{⊎_elim}
 use mathlib.Core.Bool.{Bool, true, false}
 use mathlib.Core.List.{List, ◌++◌}
@@ -9,10 +9,9 @@ use lib.ListN.{length, get_or, length-append, get_or-append}
 use lib.Seq.{ext_get_or, get_or-append-add}
 use lib.Ieee.{Float}
 use Rattle.regions.specs.Region.{Front, cleared}
-use Rattle.regions.proofs.Cases.{below_or_not, same_or_not}
-use Rattle.regions.proofs.Fronts.{cleared_long, cleared_at, cleared_front, front_then, front_wide}
-use Rattle.graph.specs.Edges.{edges_of, neighbours}
-use Rattle.rows.specs.Rows.{row_at, rows_front, RowsFit, BuildPre, Built}
+use Rattle.regions.proofs.Cases.{below_or_not}
+use Rattle.regions.proofs.Fronts.{cleared_at, cleared_front, front_then, front_wide}
+use Rattle.rows.specs.Rows.{row_at, rows_front, BuildPre, Built}
 use Rattle.rows.specs.Walks.{row_to, back, count_to, sum_to, cells, CountPre, Counted, SumPre, Summed, PlacePre, Placed}
 use Rattle.rows.proofs.Sums.{sum_same, sum_more, sum_mono}
 use Rattle.rows.proofs.Walks.{row_in}

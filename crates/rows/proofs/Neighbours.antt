@@ -2,7 +2,7 @@
 use mathlib.Core.Path.{◌≡◌, refl, sym, ap, ◌∙◌}
 use mathlib.Core.Bool.{Bool, true, false, not, ◌&&◌, cond}
 use mathlib.Core.List.{List, [], ◌∷◌, ◌++◌, append_assoc, append-nil}
-use Prim.Native.Nat.{ℕ, zero, suc, ◌+◌, ◌≤◌, ◌<◌}
+use Prim.Native.Nat.{ℕ, zero, suc, ◌≤◌, ◌<◌}
 use native.Mathlib.Omega.{arith}
 use lib.Dec.{eqb}
 use lib.ListN.{length, get_or, take}
@@ -11,7 +11,7 @@ use lib.Ieee.{Float, nan}
 use Rattle.graph.specs.Edges.{Edge, edge, edges_of, newest_first, only, gives_out, gives_in, neighbours}
 use Rattle.graph.specs.Pres.{Sized}
 use Rattle.graph.proofs.Edges.{edges_long, edges_at, no_edge}
-use Rattle.rows.specs.Walks.{cons_if, takes, row_to, back}
+use Rattle.rows.specs.Walks.{cons_if, row_to, back}
 
 -- the newest edge gives first
 newest_last : (gives : Edge → List ℕ) (es : List Edge) (e : Edge) → newest_first gives (es ++ (e ∷ [])) ≡ gives e ++ newest_first gives es

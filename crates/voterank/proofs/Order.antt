@@ -1,14 +1,13 @@
 -- Doubles that are neither NaN nor negative: sums and maxima with 0 stay so, and their order is total. Assumes nothing.
-use Rattle.std.proofs.Common.{◌≡◌, ℕ, zero, suc, ◌+◌, ◌*◌, ◌^◌, ◌<◌, ◌≤◌, Bool, true, false, cond, not, ◌&&◌, ◌||◌, eqb, ltb, ℤ, pos, sym, refl, ap, ◌∙◌, ⊎_elim, true≢false, arith, ltb-false, ltb-true, le-ltb, lt-ltb, eq-eqb}
+use Rattle.std.proofs.Common.{◌≡◌, ℕ, zero, suc, ◌+◌, ◌*◌, ◌^◌, ◌<◌, ◌≤◌, Bool, true, false, cond, not, ◌&&◌, ◌||◌, eqb, ltb, ℤ, refl, ap, ◌∙◌, ⊎_elim, true≢false, arith, ltb-false, ltb-true, eq-eqb}
 use mathlib.Core.Bool.{false≢true}
-use lib.Count.{count_trailing_zeros}
 use lib.Ieee.{Float, Format, binary64, nan, inf, fin, prec, emax, low, up, down, odd, units, round, sum, add, lt, eq, is_nan, of_bits}
 use lib.Ieee.Fits.{down_pos}
 use lib.Ieee.Positive.{through}
 use Rattle.regions.specs.Doubles.{one}
 use Rattle.regions.specs.Region.{zero_f}
 use Rattle.regions.proofs.Cases.{bool_cases}
-use Rattle.roots.specs.Maximum.{max_of, under, negative}
+use Rattle.roots.specs.Maximum.{max_of, under}
 
 -- neither NaN nor negative
 abbrev pub fine : Float → Bool

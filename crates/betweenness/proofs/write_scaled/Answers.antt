@@ -1,5 +1,5 @@
 -- `betweenness::write_scaled` meets its contract: after v nodes their scores are written. Assumes nothing.
-use Rattle.std.proofs.Common.{◌≡◌, ℕ, ◌-◌, ◌≤◌, length, get_or, refl, ap, ◌∙◌, arith, rules}
+use Rattle.std.proofs.Common.{◌≡◌, ℕ, get_or, refl, ap, ◌∙◌, arith, rules}
 use lib.Ieee.{nan, binary64, mul}
 use Rattle.regions.specs.Region.{over, list_of}
 use Rattle.regions.proofs.Fronts.{results_none, results_more}

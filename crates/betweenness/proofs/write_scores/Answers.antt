@@ -1,5 +1,5 @@
 -- `betweenness::write_scores` meets its contract, case by case. Assumes nothing.
-use Rattle.std.proofs.Common.{ℕ, ◌-◌, ◌*◌, ◌^◌, ◌<◌, ◌≤◌, mul-le-mul_right, arith, rules}
+use Rattle.std.proofs.Common.{ℕ, ◌-◌, ◌*◌, ◌^◌, ◌<◌, ◌≤◌, mul-le-mul_right, arith}
 use lib.Ieee.{of_bits}
 use Rattle.betweenness.proofs.Scaling.{times_pairs, times_half, as_few, as_directed}
 use Rattle.betweenness.proofs.write_scores.Goals as goal

@@ -1,8 +1,6 @@
 -- `boundary::done_report` meets its contract, field by field. Assumes nothing.
-use mathlib.Core.Path.{◌≡◌, ap}
+use mathlib.Core.Path.{ap}
 use Prim.Native.Nat.{ℕ}
-use borrow.Author.Rules.{rules}
-use Rattle.boundary.specs.declared.Report.{Report}
 use Rattle.boundary.specs.Boundary.{returned}
 use Rattle.boundary.proofs.done_report.Goals as goal
 

@@ -1,8 +1,7 @@
 -- `boundary::refused_report` meets its contract: the number, and 0 everywhere else. Assumes nothing.
-use mathlib.Core.Path.{◌≡◌, ap}
+use mathlib.Core.Path.{ap}
 use Prim.Native.Nat.{ℕ}
 use lib.Ieee.{of_bits}
-use borrow.Author.Rules.{rules}
 use Rattle.boundary.specs.Boundary.{no_settings}
 use Rattle.boundary.proofs.refused_report.Goals as goal
 

@@ -1,9 +1,8 @@
 -- `boundary::report_of` meets its contract, case by case. Assumes nothing.
-use mathlib.Core.Path.{◌≡◌, sym, ap, ◌∙◌}
+use mathlib.Core.Path.{sym, ap, ◌∙◌}
 use Rattle.answers.specs.declared.Ended.{Ended}
 use Rattle.answers.specs.Answers.{said_ended}
 use Rattle.boundary.specs.Boundary.{reported}
-use borrow.Author.Rules.{rules}
 use Rattle.boundary.proofs.report_of.Goals as goal
 
 pub returns-in-Done : goal.returns-in-Done

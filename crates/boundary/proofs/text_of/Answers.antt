@@ -1,11 +1,10 @@
 -- `boundary::text_of` meets its contract, case by case. Assumes nothing.
-use mathlib.Core.Path.{◌≡◌, sym, ap, ◌∙◌}
+use mathlib.Core.Path.{sym, ap, ◌∙◌}
 use Prim.Native.Nat.{ℕ}
 use Rattle.ran.specs.declared.Ran.{Ran}
 use Rattle.ran.specs.Ran.{said_ran}
 use Rattle.boundary.specs.declared.Text.{Text}
 use Rattle.boundary.specs.Boundary.{written}
-use borrow.Author.Rules.{rules}
 use Rattle.boundary.proofs.text_of.Goals as goal
 
 abbrev told : Ran → Text

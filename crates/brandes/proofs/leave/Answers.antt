@@ -1,5 +1,5 @@
 -- `brandes::leave` meets its contract. Assumes nothing.
-use Rattle.std.proofs.Common.{◌≡◌, ℕ, ◌+◌, ◌-◌, ◌<◌, ◌≤◌, get_or, refl, arith, rules}
+use Rattle.std.proofs.Common.{◌≡◌, ℕ, ◌+◌, ◌-◌, ◌<◌, ◌≤◌, get_or, refl, arith}
 use Rattle.brandes.proofs.Passing.{left_start, left_other}
 use Rattle.brandes.proofs.leave.Goals as goal
 use Rattle.brandes.proofs.leave.Goals.{Start}

@@ -1,8 +1,7 @@
 -- `brandes::pass_back` meets its contract: the entries before p have taken their shares. Assumes nothing.
-use Rattle.std.proofs.Common.{◌≡◌, ℕ, ◌-◌, ◌<◌, ◌≤◌, length, get_or, refl, ap, ◌∙◌, arith, rules}
+use Rattle.std.proofs.Common.{◌≡◌, ◌-◌, ◌≤◌, length}
 use Rattle.regions.specs.Region.{part}
 use Rattle.brandes.specs.Steps.{passed_back}
-use Rattle.brandes.proofs.Passing.{pass_none, pass_more}
 use Rattle.brandes.proofs.pass_back.Given as goal
 
 abbrev pub invariant-loop-p : goal.invariant-loop-p

@@ -1,5 +1,5 @@
 -- `brandes::release` meets its contract: after i turns the first i nodes of the queue are released. Assumes nothing.
-use Rattle.std.proofs.Common.{◌≡◌, ℕ, ◌+◌, ◌-◌, ◌≤◌, subst, arith}
+use Rattle.std.proofs.Common.{◌≡◌, ℕ, ◌+◌, subst, arith}
 use lib.Ieee.{of_bits}
 use Rattle.brandes.specs.Steps.{Released}
 use Rattle.brandes.proofs.Releasing.{released_none, Turn, turn, released_more}

@@ -1,8 +1,6 @@
 -- `brandes::release` meets its contract: after i turns the first i nodes of the queue are released. Assumes nothing.
-use Rattle.std.proofs.Common.{◌≡◌, ℕ, ◌+◌, ◌-◌, ◌≤◌, subst, arith}
-use lib.Ieee.{of_bits}
+use Rattle.std.proofs.Common.{◌-◌, ◌≤◌}
 use Rattle.brandes.specs.Steps.{Released}
-use Rattle.brandes.proofs.Releasing.{released_none, Turn, turn, released_more}
 use Rattle.brandes.proofs.release.Given as goal
 
 abbrev pub invariant-loop-i : goal.invariant-loop-i

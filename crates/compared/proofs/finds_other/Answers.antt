@@ -1,6 +1,5 @@
 -- `compared::finds_other` meets its contract. Assumes nothing.
 use Rattle.compared.proofs.Other.{left_other, left_same}
-use borrow.Author.Rules.{rules}
 use Rattle.compared.proofs.finds_other.Goals as goal
 
 pub returns-then-leaves_other : goal.returns-then-leaves_other

@@ -1,6 +1,5 @@
 -- `compared::leaves_other` meets its contract. Assumes nothing.
 use Rattle.compared.proofs.Other.{other_results, other_report, same_results}
-use borrow.Author.Rules.{rules}
 use Rattle.compared.proofs.leaves_other.Goals as goal
 
 pub returns-then-other_counts : goal.returns-then-other_counts

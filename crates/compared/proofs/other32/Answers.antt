@@ -1,11 +1,8 @@
 -- `compared::other32` meets its contract: the slots that are left decide it. Assumes nothing.
-use mathlib.Core.Path.{◌≡◌, refl, sym, ◌∙◌}
-use Prim.Native.Nat.{◌≤◌, ◌-◌}
+use mathlib.Core.Path.{refl, sym, ◌∙◌}
 use native.Mathlib.Omega.{arith}
-use lib.ListN.{length, drop}
-use Rattle.compared.specs.Other.{is_other32, old32}
+use Rattle.compared.specs.Other.{old32}
 use Rattle.compared.proofs.Other.{same_slot, other_slot, no_slot, too_short}
-use borrow.Author.Rules.{rules}
 use Rattle.compared.proofs.other32.Goals as goal
 
 pub returns-then-slice-first : goal.returns-then-slice-first

@@ -1,11 +1,8 @@
 -- `compared::other32` meets its contract: the slots that are left decide it. Assumes nothing.
-use mathlib.Core.Path.{◌≡◌, refl, sym, ◌∙◌}
+use mathlib.Core.Path.{◌≡◌}
 use Prim.Native.Nat.{◌≤◌, ◌-◌}
-use native.Mathlib.Omega.{arith}
 use lib.ListN.{length, drop}
-use Rattle.compared.specs.Other.{is_other32, old32}
-use Rattle.compared.proofs.Other.{same_slot, other_slot, no_slot, too_short}
-use borrow.Author.Rules.{rules}
+use Rattle.compared.specs.Other.{is_other32}
 use Rattle.compared.proofs.other32.Given as goal
 
 abbrev pub invariant-loop-i : goal.invariant-loop-i

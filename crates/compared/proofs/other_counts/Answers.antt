@@ -1,6 +1,5 @@
 -- `compared::other_counts` meets its contract. Assumes nothing.
 use Rattle.compared.proofs.Other.{other_narrow, same_narrow}
-use borrow.Author.Rules.{rules}
 use Rattle.compared.proofs.other_counts.Goals as goal
 
 pub returns-then-other32 : goal.returns-then-other32

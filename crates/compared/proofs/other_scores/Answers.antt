@@ -1,6 +1,5 @@
 -- `compared::other_scores` meets its contract. Assumes nothing.
 use Rattle.compared.proofs.Other.{other_floats, same_floats}
-use borrow.Author.Rules.{rules}
 use Rattle.compared.proofs.other_scores.Goals as goal
 
 pub returns-then-otherf : goal.returns-then-otherf

@@ -1,6 +1,5 @@
 -- `compared::other_work` meets its contract. Assumes nothing.
 use Rattle.compared.proofs.Other.{other_w32, other_w64, same_work}
-use borrow.Author.Rules.{rules}
 use Rattle.compared.proofs.other_work.Goals as goal
 
 pub returns-then-other32 : goal.returns-then-other32

@@ -1,12 +1,10 @@
 -- `compared::otherf` meets its contract: the slots that are left decide it. Assumes nothing.
-use mathlib.Core.Path.{◌≡◌, refl, sym, ap, ◌∙◌}
-use Prim.Native.Nat.{◌≤◌, ◌-◌}
+use mathlib.Core.Path.{refl, sym, ap, ◌∙◌}
 use native.Mathlib.Omega.{arith}
-use lib.ListN.{length, drop, get_or}
+use lib.ListN.{get_or}
 use lib.Ieee.{binary64, to_bits, nan}
-use Rattle.compared.specs.Other.{is_other_f, old_f}
+use Rattle.compared.specs.Other.{old_f}
 use Rattle.compared.proofs.Other.{same_slot, other_slot, no_slot, too_short}
-use borrow.Author.Rules.{rules}
 use Rattle.compared.proofs.otherf.Goals as goal
 
 pub returns-then-slice-first : goal.returns-then-slice-first

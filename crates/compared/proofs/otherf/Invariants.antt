@@ -1,12 +1,8 @@
 -- `compared::otherf` meets its contract: the slots that are left decide it. Assumes nothing.
-use mathlib.Core.Path.{◌≡◌, refl, sym, ap, ◌∙◌}
+use mathlib.Core.Path.{◌≡◌}
 use Prim.Native.Nat.{◌≤◌, ◌-◌}
-use native.Mathlib.Omega.{arith}
-use lib.ListN.{length, drop, get_or}
-use lib.Ieee.{binary64, to_bits, nan}
-use Rattle.compared.specs.Other.{is_other_f, old_f}
-use Rattle.compared.proofs.Other.{same_slot, other_slot, no_slot, too_short}
-use borrow.Author.Rules.{rules}
+use lib.ListN.{length, drop}
+use Rattle.compared.specs.Other.{is_other_f}
 use Rattle.compared.proofs.otherf.Given as goal
 
 abbrev pub invariant-loop-i : goal.invariant-loop-i

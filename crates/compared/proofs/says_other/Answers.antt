@@ -1,6 +1,5 @@
 -- `compared::says_other` meets its contract. Assumes nothing.
 use Rattle.compared.proofs.Other.{other_answer, other_settled, other_rounds, other_elected, same_report}
-use borrow.Author.Rules.{rules}
 use Rattle.compared.proofs.says_other.Goals as goal
 
 pub returns-then-left-word : goal.returns-then-left-word

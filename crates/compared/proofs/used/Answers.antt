@@ -1,6 +1,5 @@
 -- `compared::used` meets its contract. Assumes nothing.
 use Rattle.compared.proofs.Other.{none_used, many_nodes, many_edges, all_used}
-use borrow.Author.Rules.{rules}
 use Rattle.compared.proofs.used.Goals as goal
 
 pub returns-then-uses_none : goal.returns-then-uses_none

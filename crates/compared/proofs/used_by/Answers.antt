@@ -1,5 +1,4 @@
 -- `compared::used_by` meets its contract. Assumes nothing.
-use borrow.Author.Rules.{rules}
 use Rattle.compared.proofs.used_by.Goals as goal
 
 pub returns : goal.returns

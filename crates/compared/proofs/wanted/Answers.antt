@@ -2,7 +2,6 @@
 use mathlib.Core.Path.{sym}
 use lib.ListN.{get_or-eq_default}
 use Rattle.compared.proofs.Other.{among}
-use borrow.Author.Rules.{rules}
 use Rattle.compared.proofs.wanted.Goals as goal
 
 pub returns-then-i-first : goal.returns-then-i-first

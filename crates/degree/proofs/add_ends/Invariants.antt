@@ -1,12 +1,8 @@
 -- `degree::add_ends` meets its contract: after i ends each has added one. Assumes nothing.
-use mathlib.Core.Path.{◌≡◌, refl, ap, ◌∙◌}
-use Prim.Native.Nat.{ℕ, ◌≤◌, ◌<◌, ◌-◌}
-use native.Mathlib.Omega.{arith}
-use lib.ListN.{length, get_or}
-use lib.Ieee.{of_bits}
+use mathlib.Core.Path.{◌≡◌}
+use Prim.Native.Nat.{◌≤◌, ◌-◌}
+use lib.ListN.{length}
 use Rattle.degree.specs.Tally.{tally}
-use Rattle.degree.proofs.Counting.{tally_none, tally_more}
-use borrow.Author.Rules.{rules}
 use Rattle.degree.proofs.add_ends.Given as goal
 
 abbrev pub invariant-loop-i : goal.invariant-loop-i

@@ -1,10 +1,8 @@
 -- `degree::add_pairs` meets its contract: after i edges both ends of each have added one, then the rest. Assumes nothing.
-use mathlib.Core.Path.{◌≡◌, refl, ◌∙◌}
-use Prim.Native.Nat.{◌+◌, ◌-◌, ◌≤◌}
-use native.Mathlib.Omega.{arith}
+use mathlib.Core.Path.{◌≡◌}
+use Prim.Native.Nat.{◌-◌, ◌≤◌}
 use lib.ListN.{length}
 use Rattle.degree.specs.Tally.{pair_tally}
-use Rattle.degree.proofs.Pairs.{tally_part, pairs_none, pairs_then}
 use Rattle.degree.proofs.add_pairs.Given as goal
 
 abbrev pub invariant-loop-i : goal.invariant-loop-i

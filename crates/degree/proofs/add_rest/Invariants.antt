@@ -1,10 +1,8 @@
 -- `degree::add_rest` meets its contract: at i both ends of the edges before it have added one. Assumes nothing.
-use mathlib.Core.Path.{◌≡◌, refl, ap, ◌∙◌}
-use Prim.Native.Nat.{ℕ, ◌+◌, ◌-◌, ◌≤◌, ◌<◌}
-use native.Mathlib.Omega.{arith}
-use lib.ListN.{length, get_or}
+use mathlib.Core.Path.{◌≡◌}
+use Prim.Native.Nat.{◌-◌, ◌≤◌}
+use lib.ListN.{length}
 use Rattle.degree.specs.Tally.{pairs_from}
-use Rattle.degree.proofs.Pairs.{both_at, from_none, from_more}
 use Rattle.degree.proofs.add_rest.Given as goal
 
 abbrev pub invariant-loop-i : goal.invariant-loop-i

@@ -11,7 +11,6 @@ use Rattle.graph.proofs.Left.{refused}
 use Rattle.graph.proofs.Refusals.{passed}
 use Rattle.degree.specs.Degree.{ends_outcome}
 use Rattle.degree.proofs.Ending.{tests, turn, fits, no_more, walked_both, walked_from, walked_to, pairs_pre, from_pre, to_pre, ended}
-use borrow.Author.Rules.{rules}
 use Rattle.degree.proofs.count_ends.Goals as goal
 use Rattle.degree.proofs.count_ends.Goals.{After-counted-pairs, Else-refuses, Start}
 

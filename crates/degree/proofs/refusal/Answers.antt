@@ -5,7 +5,6 @@ use lib.Dec.{ltb}
 use borrow.Author.Tests.{lt-ltb, le-ltb}
 use Rattle.graph.specs.Refusals.{Tests, first_of, first_refusal, ends_tests}
 use Rattle.graph.proofs.Refusals.{early, late}
-use borrow.Author.Rules.{rules}
 use Rattle.degree.proofs.refusal.Goals as goal
 use Rattle.degree.proofs.refusal.Goals.{Else-refuses, Start}
 

@@ -1,5 +1,5 @@
 -- `eigenvector::eigenvector` meets its contract: a refusal by its test, the scores by what the rounds leave. Assumes nothing.
-use Rattle.std.proofs.Common.{List, rules}
+use Rattle.std.proofs.Common.{List}
 use lib.Ieee.{Float}
 use Rattle.graph.specs.Given.{Given, given}
 use Rattle.graph.specs.Pres.{Passed}

@@ -1,5 +1,5 @@
 -- `eigenvector::norm` meets its contract. Assumes nothing.
-use Rattle.std.proofs.Common.{◌≡◌, ◌-◌, ◌≤◌, ap, ◌∙◌, arith, rules}
+use Rattle.std.proofs.Common.{◌≡◌, ap, ◌∙◌, arith, rules}
 use lib.Ieee.{of_bits}
 use Rattle.regions.specs.Region.{zero_f}
 use Rattle.roots.specs.Root.{sqrt_of}

@@ -1,13 +1,11 @@
 -- `eigenvector::normalize` meets its contract: after i nodes both vectors are rewritten up to i, and the sum has i changes. Assumes nothing.
-use Rattle.std.proofs.Common.{◌≡◌, ◌-◌, ◌≤◌, sym, ap, ◌∙◌, le_refl, arith, length-set, rules}
-use lib.Ieee.{Float, binary64, of_bits, div}
+use Rattle.std.proofs.Common.{◌≡◌, ◌-◌, ◌≤◌}
 use Rattle.regions.specs.Region.{zero_f}
 use Rattle.rounds.specs.Rounds.{after}
-use Rattle.rounds.specs.Vectors.{with_change, squared_change, current_in, next_in}
-use Rattle.rounds.proofs.Rounds.{after_none}
-use Rattle.rounds.proofs.Passes.{Rewritten, rewritten_none, rewritten_more, rewritten_done, change_more}
+use Rattle.rounds.specs.Vectors.{with_change, current_in, next_in}
+use Rattle.rounds.proofs.Passes.{Rewritten}
 use Rattle.eigenvector.specs.Eigenvector.{scaled}
-use Rattle.eigenvector.proofs.Steps.{scaled_at, scaled_entry}
+use Rattle.eigenvector.proofs.Steps.{scaled_at}
 use Rattle.eigenvector.proofs.normalize.Given as goal
 
 abbrev pub invariant-loop-i : goal.invariant-loop-i

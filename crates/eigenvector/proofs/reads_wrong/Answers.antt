@@ -1,5 +1,5 @@
 -- `eigenvector::reads_wrong` meets its contract. Assumes nothing.
-use Rattle.std.proofs.Common.{sym, ◌∙◌, rules}
+use Rattle.std.proofs.Common.{sym, ◌∙◌}
 use Rattle.eigenvector.proofs.reads_wrong.Goals as goal
 
 pub returns-then-number_wrong : goal.returns-then-number_wrong

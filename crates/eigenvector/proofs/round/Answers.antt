@@ -1,5 +1,5 @@
 -- `eigenvector::round` meets its contract: the edges, the norm, then the start value or the scaled vector. Assumes nothing.
-use Rattle.std.proofs.Common.{arith, rules}
+use Rattle.std.proofs.Common.{arith}
 use Rattle.eigenvector.proofs.Steps.{round_tiny, round_scaled}
 use Rattle.eigenvector.proofs.round.Goals as goal
 

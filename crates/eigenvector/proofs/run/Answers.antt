@@ -1,5 +1,5 @@
 -- `eigenvector::run` meets its contract. Assumes nothing.
-use Rattle.std.proofs.Common.{arith, rules}
+use Rattle.std.proofs.Common.{arith}
 use Rattle.eigenvector.proofs.Steps.{begun_both, run_none, run_some}
 use Rattle.eigenvector.proofs.run.Goals as goal
 

@@ -1,13 +1,8 @@
 -- `eigenvector::run_on` meets its contract: where the rounds from the kth on end is where all end. Assumes nothing.
-use Rattle.std.proofs.Common.{◌≡◌, ◌+◌, ◌-◌, ◌≤◌, refl, arith, rules}
+use Rattle.std.proofs.Common.{refl, arith, rules}
 use native.Mathlib.Nat.{sub-zero}
-use Rattle.regions.specs.Region.{Front}
 use Rattle.regions.proofs.Fronts.{front_none, front_then}
-use Rattle.rounds.specs.Rounds.{outcome_from}
-use Rattle.rounds.specs.Vectors.{current_in, next_in}
-use Rattle.graph.specs.Edges.{graph_from}
 use Rattle.rounds.proofs.Rounds.{rounds_more, rounds_met, rounds_over}
-use Rattle.eigenvector.specs.Eigenvector.{eigen_step}
 use Rattle.eigenvector.proofs.run_on.Goals as goal
 
 pub loop-k-init : goal.loop-k-init

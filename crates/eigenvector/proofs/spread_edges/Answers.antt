@@ -1,7 +1,6 @@
 -- `eigenvector::spread_edges` meets its contract: what the edges from the ith on make of the next vector is what all make of the first. Assumes nothing.
-use Rattle.std.proofs.Common.{◌-◌, ◌≤◌, length, arith, rules}
-use Rattle.rounds.proofs.Passes.{Growing, growing_none, growing_more, growing_done}
-use Rattle.eigenvector.specs.Eigenvector.{eigen_edge}
+use Rattle.std.proofs.Common.{arith, rules}
+use Rattle.rounds.proofs.Passes.{growing_none, growing_more, growing_done}
 use Rattle.eigenvector.proofs.spread_edges.Goals as goal
 
 pub loop-i-init : goal.loop-i-init

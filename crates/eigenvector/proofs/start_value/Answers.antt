@@ -1,5 +1,5 @@
 -- `eigenvector::start_value` meets its contract. Assumes nothing.
-use Rattle.std.proofs.Common.{ap, ◌∙◌, rules}
+use Rattle.std.proofs.Common.{ap, ◌∙◌}
 use lib.Ieee.{Float, binary64, div}
 use Rattle.regions.specs.Doubles.{one}
 use Rattle.roots.specs.Root.{sqrt_of}

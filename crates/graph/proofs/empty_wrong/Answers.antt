@@ -1,5 +1,4 @@
 -- `graph::empty_wrong` meets its contract. Assumes nothing.
-use mathlib.Core.Path.{◌≡◌, sym}
 use Rattle.graph.proofs.empty_wrong.Goals as goal
 
 pub returns-then-empties : goal.returns-then-empties

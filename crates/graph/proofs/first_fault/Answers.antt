@@ -1,11 +1,6 @@
 -- `graph::first_fault` meets its contract: the first fault of the edges from the ith on is the first of all. Assumes nothing.
-use mathlib.Core.Path.{◌≡◌, refl}
-use Prim.Native.Nat.{ℕ, ◌≤◌, ◌<◌, ◌-◌}
+use mathlib.Core.Path.{refl}
 use native.Mathlib.Omega.{arith}
-use borrow.Author.Rules.{rules}
-use lib.ListN.{length, get_or, drop}
-use Rattle.graph.specs.Edges.{edges_of}
-use Rattle.graph.specs.Checks.{first_fault}
 use Rattle.graph.proofs.Checks.{from_fault, to_fault, no_fault, all_passed}
 use Rattle.graph.proofs.first_fault.Goals as goal
 

@@ -1,12 +1,9 @@
 -- `graph::first_fault` meets its contract: the first fault of the edges from the ith on is the first of all. Assumes nothing.
-use mathlib.Core.Path.{◌≡◌, refl}
-use Prim.Native.Nat.{ℕ, ◌≤◌, ◌<◌, ◌-◌}
-use native.Mathlib.Omega.{arith}
-use borrow.Author.Rules.{rules}
-use lib.ListN.{length, get_or, drop}
+use mathlib.Core.Path.{◌≡◌}
+use Prim.Native.Nat.{◌≤◌, ◌-◌}
+use lib.ListN.{length, drop}
 use Rattle.graph.specs.Edges.{edges_of}
 use Rattle.graph.specs.Checks.{first_fault}
-use Rattle.graph.proofs.Checks.{from_fault, to_fault, no_fault, all_passed}
 use Rattle.graph.proofs.first_fault.Given as goal
 
 abbrev pub invariant-loop-i : goal.invariant-loop-i

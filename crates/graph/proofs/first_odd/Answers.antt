@@ -1,10 +1,6 @@
 -- `graph::first_odd` meets its contract: the first odd number from the ith on is the first of all. Assumes nothing.
-use mathlib.Core.Path.{◌≡◌, refl, sym, ◌∙◌}
-use Prim.Native.Nat.{ℕ, ◌≤◌, ◌<◌, ◌-◌}
+use mathlib.Core.Path.{refl, sym, ◌∙◌}
 use native.Mathlib.Omega.{arith}
-use borrow.Author.Rules.{rules}
-use lib.ListN.{length, drop}
-use Rattle.graph.specs.Checks.{first_odd}
 use Rattle.graph.proofs.Checks.{odd_here, odd_later, none_odd}
 use Rattle.graph.proofs.first_odd.Goals as goal
 

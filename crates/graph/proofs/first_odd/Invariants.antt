@@ -1,11 +1,8 @@
 -- `graph::first_odd` meets its contract: the first odd number from the ith on is the first of all. Assumes nothing.
-use mathlib.Core.Path.{◌≡◌, refl, sym, ◌∙◌}
-use Prim.Native.Nat.{ℕ, ◌≤◌, ◌<◌, ◌-◌}
-use native.Mathlib.Omega.{arith}
-use borrow.Author.Rules.{rules}
+use mathlib.Core.Path.{◌≡◌}
+use Prim.Native.Nat.{◌≤◌, ◌-◌}
 use lib.ListN.{length, drop}
 use Rattle.graph.specs.Checks.{first_odd}
-use Rattle.graph.proofs.Checks.{odd_here, odd_later, none_odd}
 use Rattle.graph.proofs.first_odd.Given as goal
 
 abbrev pub invariant-loop-i : goal.invariant-loop-i

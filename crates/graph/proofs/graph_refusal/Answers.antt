@@ -1,6 +1,5 @@
 -- `graph::graph_refusal` meets its contract: each return by the tests that led to it. Assumes nothing.
-use mathlib.Core.Path.{◌≡◌, sym, ◌∙◌}
-use borrow.Author.Rules.{rules}
+use mathlib.Core.Path.{sym, ◌∙◌}
 use Rattle.graph.specs.Refusals.{first_of, first_refusal}
 use Rattle.graph.proofs.Checks.{size_sized}
 use Rattle.graph.proofs.graph_refusal.Goals as goal

@@ -1,9 +1,6 @@
 -- `graph::highest` meets its contract: after i ends none of them is above the highest so far. Assumes nothing.
-use Prim.Native.Nat.{ℕ, ◌≤◌, ◌<◌, ◌-◌}
 use native.Mathlib.Omega.{arith}
-use lib.ListN.{length}
-use Rattle.graph.proofs.Checks.{Top, top_none, top_more, top_all}
-use borrow.Author.Rules.{rules}
+use Rattle.graph.proofs.Checks.{top_none, top_more, top_all}
 use Rattle.graph.proofs.highest.Goals as goal
 
 pub loop-i-init : goal.loop-i-init

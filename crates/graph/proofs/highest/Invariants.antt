@@ -1,9 +1,7 @@
 -- `graph::highest` meets its contract: after i ends none of them is above the highest so far. Assumes nothing.
-use Prim.Native.Nat.{ℕ, ◌≤◌, ◌<◌, ◌-◌}
-use native.Mathlib.Omega.{arith}
+use Prim.Native.Nat.{◌≤◌, ◌-◌}
 use lib.ListN.{length}
-use Rattle.graph.proofs.Checks.{Top, top_none, top_more, top_all}
-use borrow.Author.Rules.{rules}
+use Rattle.graph.proofs.Checks.{Top}
 use Rattle.graph.proofs.highest.Given as goal
 
 abbrev pub invariant-loop-i : goal.invariant-loop-i

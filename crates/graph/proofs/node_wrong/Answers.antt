@@ -1,10 +1,9 @@
 -- `graph::node_wrong` meets its contract: with the highest ends below n every end is a node; else the first fault is sought. Assumes nothing.
-use mathlib.Core.Path.{◌≡◌, sym}
-use Prim.Native.Nat.{ℕ, ◌<◌}
+use mathlib.Core.Path.{sym}
+use Prim.Native.Nat.{◌<◌}
 use native.Mathlib.Omega.{arith}
 use lib.ListN.{length}
-use borrow.Author.Rules.{rules}
-use Rattle.graph.specs.Checks.{node_wrong, some_fault}
+use Rattle.graph.specs.Checks.{node_wrong}
 use Rattle.graph.proofs.Checks.{inside_node}
 use Rattle.graph.proofs.node_wrong.Goals as goal
 

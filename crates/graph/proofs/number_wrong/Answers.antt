@@ -1,5 +1,4 @@
 -- `graph::number_wrong` meets its contract. Assumes nothing.
-use borrow.Author.Rules.{rules}
 use Rattle.graph.specs.Checks.{number_wrong}
 use Rattle.graph.proofs.number_wrong.Goals as goal
 

@@ -3,9 +3,7 @@ use mathlib.Core.Path.{◌≡◌, sym, ap, ◌∙◌}
 use mathlib.Core.Bool.{Bool, false}
 use Prim.Native.Nat.{ℕ}
 use lib.ListN.{length}
-use borrow.Author.Rules.{rules}
 use Rattle.graph.specs.declared.Fronts.{Fronts}
-use Rattle.graph.specs.Fronts.{usual_fronts}
 use Rattle.graph.specs.Checks.{work_wrong}
 use Rattle.graph.specs.Refusals.{Tests, first_of, first_refusal, ends_tests, room_wrong}
 use Rattle.graph.proofs.Checks.{size_limits}

@@ -1,9 +1,6 @@
 -- `hops::forget` meets its contract: after i turns the first i nodes of the queue are forgotten. Assumes nothing.
-use mathlib.Core.Path.{◌≡◌, subst}
-use Prim.Native.Nat.{ℕ, ◌≤◌, ◌-◌}
-use native.Mathlib.Omega.{arith}
+use Prim.Native.Nat.{◌≤◌, ◌-◌}
 use Rattle.hops.specs.Search.{Forgotten}
-use Rattle.hops.proofs.Forgetting.{forgotten_none, in_queue, distance_in, count_in_lem, forgotten_more}
 use Rattle.hops.proofs.forget.Given as goal
 
 abbrev pub invariant-loop-i : goal.invariant-loop-i

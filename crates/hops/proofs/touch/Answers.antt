@@ -1,7 +1,6 @@
 -- `hops::touch` meets its contract: a return for each case. Assumes nothing.
 use native.Mathlib.Omega.{arith}
 use lib.ListN.{length-set}
-use borrow.Author.Rules.{rules}
 use Rattle.hops.proofs.touch.Goals as goal
 
 pub offset_bounds-w-place : goal.offset_bounds-w-place

@@ -1,18 +1,11 @@
 -- `katz::advance` meets its contract: after i nodes both vectors are rewritten up to i, and the sum has i changes. Assumes nothing.
 use Prim.Native.Nat.{◌≤◌, ◌-◌}
-use mathlib.Core.Path.{◌≡◌, refl, ap, ◌∙◌}
-use native.Mathlib.Nat.{le_refl}
-use native.Mathlib.Omega.{arith}
-use lib.ListN.{length-set}
-use lib.Ieee.{of_bits}
+use mathlib.Core.Path.{◌≡◌}
 use Rattle.regions.specs.Region.{zero_f}
 use Rattle.rounds.specs.Rounds.{after}
-use Rattle.rounds.specs.Vectors.{entry, with_change, squared_change, current_in, next_in}
-use Rattle.rounds.proofs.Rounds.{after_none}
-use Rattle.rounds.proofs.Vectors.{next_list, vectors_are}
-use Rattle.rounds.proofs.Passes.{Rewritten, rewritten_none, rewritten_more, rewritten_done, change_more}
+use Rattle.rounds.specs.Vectors.{entry, with_change, current_in, next_in}
+use Rattle.rounds.proofs.Passes.{Rewritten}
 use Rattle.katz.specs.Katz.{beta_at}
-use borrow.Author.Rules.{rules}
 use Rattle.katz.proofs.advance.Given as goal
 
 abbrev pub invariant-loop-i : goal.invariant-loop-i

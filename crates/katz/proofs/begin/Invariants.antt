@@ -1,13 +1,8 @@
 -- `katz::begin` meets its contract. Assumes nothing.
 use Prim.Native.Nat.{◌≤◌, ◌-◌}
-use mathlib.Core.Path.{refl}
-use native.Mathlib.Omega.{arith}
-use lib.ListN.{length-set}
-use lib.Ieee.{of_bits}
 use Rattle.regions.specs.Region.{zero_f}
-use Rattle.rounds.proofs.Passes.{Rewritten, rewritten_none, rewritten_more, rewritten_done}
+use Rattle.rounds.proofs.Passes.{Rewritten}
 use Rattle.katz.specs.Katz.{beta_at}
-use borrow.Author.Rules.{rules}
 use Rattle.katz.proofs.begin.Given as goal
 
 abbrev pub invariant-loop-i : goal.invariant-loop-i

@@ -1,6 +1,5 @@
 -- `katz::begins` meets its contract. Assumes nothing.
 use native.Mathlib.Omega.{arith}
-use borrow.Author.Rules.{rules}
 use Rattle.katz.proofs.begins.Goals as goal
 
 pub offset_bounds-beta-i : goal.offset_bounds-beta-i

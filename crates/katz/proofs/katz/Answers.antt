@@ -7,7 +7,6 @@ use Rattle.graph.proofs.Refusals.{passed}
 use Rattle.graph.proofs.Left.{refused}
 use Rattle.katz.specs.Katz.{katz_tests, katz_outcome}
 use Rattle.katz.proofs.Steps.{answered, ready, run_pre, writes, ended}
-use borrow.Author.Rules.{rules}
 use Rattle.katz.proofs.katz.Goals as goal
 use Rattle.katz.proofs.katz.Goals.{Else-refuses, Start}
 

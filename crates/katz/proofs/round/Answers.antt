@@ -1,7 +1,6 @@
 -- `katz::round` meets its contract: the edges, then the change. Assumes nothing.
 use native.Mathlib.Omega.{arith}
 use Rattle.katz.proofs.Steps.{round_done}
-use borrow.Author.Rules.{rules}
 use Rattle.katz.proofs.round.Goals as goal
 
 pub spread_edges-requires : goal.spread_edges-requires

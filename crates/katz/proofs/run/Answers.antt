@@ -1,7 +1,6 @@
 -- `katz::run` meets its contract. Assumes nothing.
 use native.Mathlib.Omega.{arith}
 use Rattle.katz.proofs.Steps.{run_none, run_some}
-use borrow.Author.Rules.{rules}
 use Rattle.katz.proofs.run.Goals as goal
 
 pub begin-requires : goal.begin-requires

@@ -1,15 +1,9 @@
 -- `katz::run_on` meets its contract: where the rounds from the kth on end is where all end. Assumes nothing.
-use Prim.Native.Nat.{◌+◌, ◌≤◌, ◌-◌}
-use mathlib.Core.Path.{◌≡◌, refl}
+use mathlib.Core.Path.{refl}
 use native.Mathlib.Nat.{sub-zero}
 use native.Mathlib.Omega.{arith}
-use Rattle.regions.specs.Region.{Front}
 use Rattle.regions.proofs.Fronts.{front_none, front_then}
-use Rattle.rounds.specs.Rounds.{outcome_from}
-use Rattle.rounds.specs.Vectors.{current_in, next_in}
 use Rattle.rounds.proofs.Rounds.{rounds_more, rounds_met, rounds_over}
-use Rattle.katz.specs.Katz.{beta_of, katz_step}
-use Rattle.graph.specs.Edges.{graph_from}
 use borrow.Author.Rules.{rules}
 use Rattle.katz.proofs.run_on.Goals as goal
 

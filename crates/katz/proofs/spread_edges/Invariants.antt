@@ -1,10 +1,8 @@
 -- `katz::spread_edges` meets its contract: what the edges from the ith on make of the next vector is what all make of the first. Assumes nothing.
 use Prim.Native.Nat.{◌≤◌, ◌-◌}
-use native.Mathlib.Omega.{arith}
 use lib.ListN.{length}
-use Rattle.rounds.proofs.Passes.{Growing, growing_none, growing_more, growing_done}
+use Rattle.rounds.proofs.Passes.{Growing}
 use Rattle.katz.specs.Katz.{katz_edge}
-use borrow.Author.Rules.{rules}
 use Rattle.katz.proofs.spread_edges.Given as goal
 
 abbrev pub invariant-loop-i : goal.invariant-loop-i

@@ -1,5 +1,5 @@
 -- `laplacian::degree` meets its contract. Assumes nothing.
-use Rattle.std.proofs.Common.{ℕ, pos, ap, ◌∙◌, rules}
+use Rattle.std.proofs.Common.{ℕ, pos, ap, ◌∙◌}
 use lib.Ieee.{binary64, of_int}
 use Rattle.laplacian.proofs.degree.Goals as goal
 

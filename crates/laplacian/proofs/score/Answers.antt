@@ -1,9 +1,9 @@
 -- `laplacian::score` meets its contract: after k entries the sum has k neighbours. Assumes nothing.
-use Rattle.std.proofs.Common.{◌≡◌, ℕ, ◌-◌, ◌<◌, ◌≤◌, length, sym, refl, ap, ◌∙◌, arith, rules}
+use Rattle.std.proofs.Common.{◌<◌, length, ap, ◌∙◌, arith}
 use lib.Ieee.{of_bits}
 use Rattle.rows.specs.Rows.{row_at}
 use Rattle.laplacian.specs.Laplacian.{own_part}
-use Rattle.laplacian.proofs.Sums.{sum_after, sum_turn, sum_all}
+use Rattle.laplacian.proofs.Sums.{sum_turn, sum_all}
 use Rattle.laplacian.proofs.score.Goals as goal
 
 pub loop-k-init : goal.loop-k-init

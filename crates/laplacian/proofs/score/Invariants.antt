@@ -1,9 +1,7 @@
 -- `laplacian::score` meets its contract: after k entries the sum has k neighbours. Assumes nothing.
-use Rattle.std.proofs.Common.{◌≡◌, ℕ, ◌-◌, ◌<◌, ◌≤◌, length, sym, refl, ap, ◌∙◌, arith, rules}
-use lib.Ieee.{of_bits}
+use Rattle.std.proofs.Common.{◌≡◌, ◌-◌, ◌≤◌, length}
 use Rattle.rows.specs.Rows.{row_at}
-use Rattle.laplacian.specs.Laplacian.{own_part}
-use Rattle.laplacian.proofs.Sums.{sum_after, sum_turn, sum_all}
+use Rattle.laplacian.proofs.Sums.{sum_after}
 use Rattle.laplacian.proofs.score.Given as goal
 
 abbrev pub invariant-loop-k : goal.invariant-loop-k

@@ -1,5 +1,5 @@
 -- `laplacian::score_nodes` meets its contract: after v nodes their scores are written. Assumes nothing.
-use Rattle.std.proofs.Common.{◌≡◌, ℕ, ◌-◌, ◌≤◌, length, refl, ap, ◌∙◌, arith, rules}
+use Rattle.std.proofs.Common.{◌≡◌, ℕ, refl, ap, ◌∙◌, arith, rules}
 use Rattle.regions.specs.Region.{over, list_of}
 use Rattle.regions.proofs.Fronts.{results_none, results_more}
 use Rattle.rows.specs.Rows.{row_at}

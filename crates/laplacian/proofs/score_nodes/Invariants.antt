@@ -1,7 +1,6 @@
 -- `laplacian::score_nodes` meets its contract: after v nodes their scores are written. Assumes nothing.
-use Rattle.std.proofs.Common.{◌≡◌, ℕ, ◌-◌, ◌≤◌, length, refl, ap, ◌∙◌, arith, rules}
+use Rattle.std.proofs.Common.{◌≡◌, ◌-◌, ◌≤◌, length}
 use Rattle.regions.specs.Region.{over, list_of}
-use Rattle.regions.proofs.Fronts.{results_none, results_more}
 use Rattle.rows.specs.Rows.{row_at}
 use Rattle.laplacian.specs.Laplacian.{laplacian_score}
 use Rattle.laplacian.proofs.score_nodes.Given as goal

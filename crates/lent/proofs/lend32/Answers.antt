@@ -1,10 +1,9 @@
 -- `lent::lend32` meets its contract. Assumes nothing.
-use mathlib.Core.Path.{sym, ◌∙◌}
+use mathlib.Core.Path.{sym}
 use Prim.Native.Nat.{◌≤◌}
 use native.Mathlib.Omega.{arith}
-use lib.ListN.{length, take}
+use lib.ListN.{length}
 use lib.Seq.{length-take-le, take_all}
-use borrow.Author.Rules.{rules}
 use Rattle.words.specs.Words.{word_at}
 use Rattle.lent.proofs.lend32.Goals as goal
 

@@ -1,6 +1,5 @@
 -- `lines::at_most` meets its contract. Assumes nothing.
 use borrow.Author.Tests.{le-leb, lt-leb}
-use borrow.Author.Rules.{rules}
 use Rattle.lines.proofs.at_most.Goals as goal
 
 pub returns-then-v-most : goal.returns-then-v-most

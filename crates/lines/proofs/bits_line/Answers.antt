@@ -5,7 +5,6 @@ use lib.ListN.{length}
 use native.Mathlib.Omega.{arith}
 use Rattle.text.specs.Text.{bits_of}
 use Rattle.lines.proofs.Spans.{span_within, no_span, no_number, a_number}
-use borrow.Author.Rules.{rules}
 use Rattle.lines.proofs.bits_line.Goals as goal
 use Rattle.lines.proofs.bits_line.Goals.{In-Of}
 

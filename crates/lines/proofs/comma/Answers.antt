@@ -1,7 +1,6 @@
 -- `lines::comma` meets its contract. Assumes nothing.
 use native.Mathlib.Omega.{arith}
 use Rattle.lines.proofs.Spans.{comma_le}
-use borrow.Author.Rules.{rules}
 use Rattle.lines.proofs.comma.Goals as goal
 
 pub overflow_add-result : goal.overflow_add-result

@@ -5,7 +5,6 @@ use native.Mathlib.Omega.{arith}
 use Rattle.text.specs.Text.{decimal_of}
 use Rattle.lines.proofs.Spans.{span_within, no_span, no_number, a_number}
 use mathlib.Core.Path.{sym, ◌∙◌}
-use borrow.Author.Rules.{rules}
 use Rattle.lines.proofs.decimal_line.Goals as goal
 use Rattle.lines.proofs.decimal_line.Goals.{In-Of}
 

@@ -1,6 +1,5 @@
 -- `lines::decimal_up_to` meets its contract. Assumes nothing.
 use mathlib.Core.Path.{ap, ◌∙◌}
-use borrow.Author.Rules.{rules}
 use Rattle.lines.specs.declared.Line.{Line}
 use Rattle.lines.specs.Lines.{at_most}
 use Rattle.lines.proofs.decimal_up_to.Goals as goal

@@ -5,7 +5,6 @@ use native.Mathlib.Omega.{arith}
 use Rattle.text.specs.Text.{decimal_of, bits_of}
 use Rattle.lines.specs.Lines.{part_of, edge_of, edge_from}
 use Rattle.lines.proofs.Edges.{no_comma, one_comma, two_commas, no_from, no_to, no_weight, an_edge}
-use borrow.Author.Rules.{rules}
 use Rattle.lines.proofs.edge_from.Goals as goal
 use Rattle.lines.proofs.edge_from.Goals.{Else-d-e}
 

@@ -3,7 +3,6 @@ use mathlib.Core.Path.{sym, ◌∙◌}
 use Rattle.lines.specs.Lines.{edge_key}
 use Rattle.lines.proofs.Spans.{span_within}
 use Rattle.lines.proofs.Edges.{no_edge_span, edge_span}
-use borrow.Author.Rules.{rules}
 use Rattle.lines.proofs.edge_line.Goals as goal
 
 pub returns-in_default : goal.returns-in_default

@@ -4,7 +4,6 @@ use mathlib.Core.List.{List}
 use Prim.Native.Nat.{ℕ}
 use lib.Seq.{length-take-le}
 use Rattle.text.specs.Text.{is_word}
-use borrow.Author.Rules.{rules}
 use Rattle.lines.proofs.is_named.Goals as goal
 
 pub slice_bounds-bytes-end : goal.slice_bounds-bytes-end

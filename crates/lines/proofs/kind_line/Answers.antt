@@ -6,7 +6,6 @@ use native.Mathlib.Omega.{arith}
 use Rattle.text.specs.Bytes.{bytes}
 use Rattle.lines.proofs.Spans.{span_within, no_span, no_number, a_number}
 use Rattle.lines.specs.Names.{kind_of}
-use borrow.Author.Rules.{rules}
 use Rattle.lines.proofs.kind_line.Goals as goal
 use Rattle.lines.proofs.kind_line.Goals.{In-Of}
 

@@ -1,7 +1,6 @@
 -- `lines::kind_named` meets its contract. Assumes nothing.
 use mathlib.Core.Path.{sym, ◌∙◌}
 use Rattle.lines.specs.Names.{kind_of}
-use borrow.Author.Rules.{rules}
 use Rattle.lines.proofs.kind_named.Goals as goal
 
 pub returns-then-is_word : goal.returns-then-is_word

@@ -4,7 +4,6 @@ use lib.ListN.{drop}
 use native.Mathlib.Omega.{arith}
 use Rattle.text.specs.Text.{place_of}
 use Rattle.lines.proofs.Spans.{rest, end_le}
-use borrow.Author.Rules.{rules}
 use Rattle.lines.proofs.line_end.Goals as goal
 use Rattle.lines.proofs.line_end.Goals.{After-place}
 

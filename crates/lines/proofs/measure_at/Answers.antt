@@ -1,7 +1,6 @@
 -- `lines::measure_at` meets its contract. Assumes nothing.
 use mathlib.Core.Path.{sym}
 use Rattle.lines.proofs.Measures.{the_last, none_of}
-use borrow.Author.Rules.{rules}
 use Rattle.lines.proofs.measure_at.Goals as goal
 
 pub returns-in_default : goal.returns-in_default

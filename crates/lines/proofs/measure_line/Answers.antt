@@ -4,7 +4,6 @@ use mathlib.Core.Path.{sym, ◌∙◌}
 use lib.ListN.{length}
 use native.Mathlib.Omega.{arith}
 use Rattle.lines.proofs.Spans.{span_within, no_measure_span, no_name, a_name}
-use borrow.Author.Rules.{rules}
 use Rattle.lines.proofs.measure_line.Goals as goal
 use Rattle.lines.proofs.measure_line.Goals.{In-Of}
 

@@ -1,14 +1,11 @@
 -- `lines::measure_named` meets its contract. Assumes nothing.
-use mathlib.Core.Path.{◌≡◌, refl, sym, ap, ◌∙◌}
-use Prim.Native.Nat.{◌-◌, ◌≤◌}
+use mathlib.Core.Path.{refl, sym, ap, ◌∙◌}
 use native.Mathlib.Omega.{arith}
-use lib.ListN.{drop}
 use Rattle.text.specs.Text.{is_word}
 use Rattle.lines.specs.declared.Measure.{Measure}
 use Rattle.lines.specs.declared.Named.TheVariants.{Measured}
-use Rattle.lines.specs.Names.{measures, name_of, first_named}
+use Rattle.lines.specs.Names.{measures, name_of}
 use Rattle.lines.proofs.Measures.{this_name, another_name, no_name_left}
-use borrow.Author.Rules.{rules}
 use Rattle.lines.proofs.measure_named.Goals as goal
 
 pub loop-i-init : goal.loop-i-init

@@ -6,7 +6,6 @@ use lib.ListN.{length, take}
 use Rattle.lines.specs.declared.Measure.{Measure}
 use Rattle.lines.specs.declared.Word.{Word}
 use Rattle.lines.specs.Names.{name_of, Holds}
-use borrow.Author.Rules.{rules}
 use Rattle.lines.proofs.name.Goals as goal
 
 held : {measure which : Measure} {word : Word} → measure ≡ which → word.long ≤ length word.bytes → take word.long word.bytes ≡ name_of which → Holds measure word

@@ -1,7 +1,6 @@
 -- `lines::read_top` meets its contract. Assumes nothing.
 use mathlib.Core.Path.{sym, ◌∙◌}
 use Rattle.lines.specs.Top.{top_of}
-use borrow.Author.Rules.{rules}
 use Rattle.lines.proofs.read_top.Goals as goal
 
 pub returns-in_default : goal.returns-in_default

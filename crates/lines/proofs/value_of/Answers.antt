@@ -2,7 +2,6 @@
 use mathlib.Core.Path.{sym, ◌∙◌}
 use native.Mathlib.Omega.{arith}
 use Rattle.lines.proofs.Spans.{past_the_end, no_newline, other_key, spanned}
-use borrow.Author.Rules.{rules}
 use Rattle.lines.proofs.value_of.Goals as goal
 
 pub returns-then-s-at : goal.returns-then-s-at

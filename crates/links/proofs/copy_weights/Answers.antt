@@ -1,6 +1,6 @@
 -- `links::copy_weights` meets its contract: at k the entries before it have their weights. Assumes nothing.
-use Rattle.std.proofs.Common.{ℕ, ◌+◌, ◌-◌, ◌*◌, ◌≤◌, length, get_or, arith, rules}
-use Rattle.links.proofs.Weights.{first_least, total, copied_none, reads as readsAt, Copying, copying_none, copying_more, copying_done}
+use Rattle.std.proofs.Common.{arith}
+use Rattle.links.proofs.Weights.{first_least, total, copied_none, reads as readsAt, copying_none, copying_more, copying_done}
 use Rattle.links.proofs.copy_weights.Goals as goal
 
 pub returns-then-nodes-eq0 : goal.returns-then-nodes-eq0

@@ -1,6 +1,6 @@
 -- `links::copy_weights` meets its contract: at k the entries before it have their weights. Assumes nothing.
-use Rattle.std.proofs.Common.{ℕ, ◌+◌, ◌-◌, ◌*◌, ◌≤◌, length, get_or, arith, rules}
-use Rattle.links.proofs.Weights.{first_least, total, copied_none, reads as readsAt, Copying, copying_none, copying_more, copying_done}
+use Rattle.std.proofs.Common.{◌-◌, ◌≤◌, get_or}
+use Rattle.links.proofs.Weights.{Copying}
 use Rattle.links.proofs.copy_weights.Given as goal
 
 abbrev pub invariant-loop-k : goal.invariant-loop-k

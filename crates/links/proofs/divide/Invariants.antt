@@ -1,8 +1,7 @@
 -- `links::divide` meets its contract: after i nodes their entries stand at base. Assumes nothing.
-use Rattle.std.proofs.Common.{◌≡◌, ℕ, ◌+◌, ◌-◌, ◌≤◌, length, ap, arith, rules}
-use lib.Ieee.{Float, binary64, div}
+use Rattle.std.proofs.Common.{◌-◌, ◌≤◌}
 use Rattle.links.specs.Links.{divided_at}
-use Rattle.links.proofs.Turns.{Dividing, dividing_none, dividing_more, dividing_done}
+use Rattle.links.proofs.Turns.{Dividing}
 use Rattle.links.proofs.divide.Given as goal
 
 abbrev pub invariant-loop-i : goal.invariant-loop-i

@@ -1,5 +1,4 @@
 -- `links::divisor` meets its contract. Assumes nothing.
-use Rattle.std.proofs.Common.{◌≡◌, sym, ◌∙◌, rules}
 use Rattle.links.proofs.divisor.Goals as goal
 
 pub returns-then-counts : goal.returns-then-counts

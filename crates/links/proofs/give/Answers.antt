@@ -1,5 +1,5 @@
 -- `links::give` meets its contract: fours of its entries, then the rest. Assumes nothing.
-use Rattle.std.proofs.Common.{arith, rules}
+use Rattle.std.proofs.Common.{arith}
 use Rattle.links.proofs.Giving.{give_pre, give_part, given_then}
 use Rattle.links.proofs.give.Goals as goal
 

@@ -1,5 +1,5 @@
 -- `links::give_four` meets its contract: the targets and products are those of the four entries. Assumes nothing.
-use Rattle.std.proofs.Common.{arith, length-set, rules}
+use Rattle.std.proofs.Common.{arith, length-set}
 use Rattle.links.proofs.Giving.{targets, given_four}
 use Rattle.links.proofs.give_four.Goals as goal
 

@@ -1,6 +1,5 @@
 -- `links::give_fours` meets its contract: at k the entries before it have given. Assumes nothing.
-use Rattle.std.proofs.Common.{◌+◌, ◌-◌, ◌≤◌, arith}
-use Rattle.links.specs.Steps.{Given}
+use Rattle.std.proofs.Common.{◌+◌, arith}
 use Rattle.links.proofs.Giving.{give_part, given_none, given_then}
 use Rattle.links.proofs.give_fours.Goals as goal
 

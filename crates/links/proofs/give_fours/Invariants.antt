@@ -1,7 +1,6 @@
 -- `links::give_fours` meets its contract: at k the entries before it have given. Assumes nothing.
-use Rattle.std.proofs.Common.{◌+◌, ◌-◌, ◌≤◌, arith}
+use Rattle.std.proofs.Common.{◌-◌, ◌≤◌}
 use Rattle.links.specs.Steps.{Given}
-use Rattle.links.proofs.Giving.{give_part, given_none, given_then}
 use Rattle.links.proofs.give_fours.Given as goal
 
 abbrev pub invariant-loop-k : goal.invariant-loop-k

@@ -1,8 +1,7 @@
 -- `links::give_rest` meets its contract: at k the entries before it have given. Assumes nothing.
-use Rattle.std.proofs.Common.{◌+◌, ◌-◌, ◌≤◌, refl, ap, arith}
+use Rattle.std.proofs.Common.{◌+◌, refl, ap, arith}
 use lib.Ieee.{nan, binary64, mul}
 use Rattle.links.specs.Links.{weights_at}
-use Rattle.links.specs.Steps.{Given}
 use Rattle.links.proofs.Giving.{given_none, given_more, given_all}
 use Rattle.links.proofs.give_rest.Goals as goal
 

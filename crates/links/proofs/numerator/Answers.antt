@@ -1,5 +1,5 @@
 -- `links::numerator` meets its contract. Assumes nothing.
-use Rattle.std.proofs.Common.{◌≡◌, Bool, cond, sym, ap, arith, rules}
+use Rattle.std.proofs.Common.{arith}
 use lib.Ieee.{of_bits}
 use Rattle.links.proofs.numerator.Goals as goal
 

@@ -1,6 +1,5 @@
 -- `links::prepare` meets its contract: what the lists leave is what the definition reads. Assumes nothing.
 use Rattle.links.proofs.Ending.{build_pre, out_pre, copy_pre, prepared}
-use Rattle.std.proofs.Common.{rules}
 use Rattle.links.proofs.prepare.Goals as goal
 
 pub build_lists-requires : goal.build_lists-requires

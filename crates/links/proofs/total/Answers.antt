@@ -1,5 +1,5 @@
 -- `links::total` meets its contract: after i entries they are added. Assumes nothing.
-use Rattle.std.proofs.Common.{◌≡◌, ℕ, ◌-◌, ◌≤◌, length, ap, ◌∙◌, arith, rules}
+use Rattle.std.proofs.Common.{ℕ, ap, ◌∙◌, arith}
 use lib.Ieee.{of_bits}
 use Rattle.regions.specs.Region.{zero_f}
 use Rattle.rounds.specs.Rounds.{after}

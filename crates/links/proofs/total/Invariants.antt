@@ -1,10 +1,8 @@
 -- `links::total` meets its contract: after i entries they are added. Assumes nothing.
-use Rattle.std.proofs.Common.{◌≡◌, ℕ, ◌-◌, ◌≤◌, length, ap, ◌∙◌, arith, rules}
-use lib.Ieee.{of_bits}
+use Rattle.std.proofs.Common.{◌≡◌, ◌-◌, ◌≤◌, length}
 use Rattle.regions.specs.Region.{zero_f}
 use Rattle.rounds.specs.Rounds.{after}
-use Rattle.rounds.proofs.Rounds.{after_none, after_more}
-use Rattle.links.specs.Links.{with_entry, sum_of}
+use Rattle.links.specs.Links.{with_entry}
 use Rattle.links.proofs.total.Given as goal
 
 abbrev pub invariant-loop-i : goal.invariant-loop-i

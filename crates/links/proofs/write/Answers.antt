@@ -1,7 +1,5 @@
 -- `links::write` meets its contract. Assumes nothing.
-use Rattle.std.proofs.Common.{◌≡◌, length, ◌∙◌, arith, rules}
-use Rattle.graph.specs.declared.Fronts.{Fronts}
-use Rattle.graph.specs.Pres.{Roomy}
+use Rattle.std.proofs.Common.{arith}
 use Rattle.links.proofs.Ending.{wrote}
 use Rattle.links.proofs.write.Goals as goal
 

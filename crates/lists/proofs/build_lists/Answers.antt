@@ -1,6 +1,5 @@
 -- `lists::build_lists` meets its contract: what each walk leaves is what the next one needs. Assumes nothing.
 use Rattle.lists.proofs.Building.{count_pre, sum_pre, place_pre, built}
-use borrow.Author.Rules.{rules}
 use Rattle.lists.proofs.build_lists.Goals as goal
 
 pub count_entries-requires : goal.count_entries-requires

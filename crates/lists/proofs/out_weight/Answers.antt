@@ -1,13 +1,10 @@
 -- `lists::out_weight` meets its contract: at k the weights of the entries before it are added. Assumes nothing.
-use mathlib.Core.Path.{◌≡◌, ◌∙◌}
-use Prim.Native.Nat.{ℕ, ◌+◌, ◌*◌, ◌-◌, ◌≤◌}
+use mathlib.Core.Path.{◌∙◌}
 use native.Mathlib.Omega.{arith}
-use lib.ListN.{length, get_or}
 use lib.Ieee.{of_bits}
 use Rattle.regions.specs.Region.{zero_f}
 use Rattle.lists.specs.Lists.{with_share, weight_of}
-use Rattle.lists.proofs.Reading.{fold_to, walk_none, walk_more, walk_all, offsets, reads as readsAt}
-use borrow.Author.Rules.{rules}
+use Rattle.lists.proofs.Reading.{walk_none, walk_more, walk_all, offsets, reads as readsAt}
 use Rattle.lists.proofs.out_weight.Goals as goal
 
 pub overflow_add-beside : goal.overflow_add-beside

@@ -1,13 +1,10 @@
 -- `lists::out_weights` meets its contract: after v nodes their out-weights stand in their region. Assumes nothing.
 use mathlib.Core.Path.{◌≡◌}
 use Prim.Native.Nat.{ℕ, ◌+◌, ◌*◌, ◌-◌, ◌≤◌, ◌<◌}
-use native.Mathlib.Omega.{arith}
-use lib.ListN.{length, get_or}
+use lib.ListN.{get_or}
 use lib.Ieee.{Float}
 use Rattle.regions.specs.Region.{Frame}
-use Rattle.regions.proofs.Frames.{frame_none, frame_set, store_more}
 use Rattle.lists.specs.Lists.{weight_of, shares_at}
-use borrow.Author.Rules.{rules}
 use Rattle.lists.proofs.out_weights.Given as goal
 
 abbrev pub invariant-loop-v : goal.invariant-loop-v

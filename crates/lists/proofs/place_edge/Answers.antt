@@ -1,10 +1,7 @@
 -- `lists::place_edge` meets its contract, by the three ways through it. Assumes nothing.
-use mathlib.Core.Path.{◌≡◌, refl, sym, ap, ◌∙◌}
-use native.Mathlib.Omega.{arith}
 use borrow.Author.Tests.{eq-eqb}
 use Rattle.lists.specs.Walks.{edge_placed}
 use Rattle.lists.proofs.Placing.{second_pre, second_placed}
-use borrow.Author.Rules.{rules}
 use Rattle.lists.proofs.place_edge.Goals as goal
 
 pub put-requires : goal.put-requires

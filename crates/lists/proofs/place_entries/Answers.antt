@@ -1,11 +1,6 @@
 -- `lists::place_entries` meets its contract: with `left` edges left, the entries of the others stand at the ends of their lists. Assumes nothing.
-use Prim.Native.Nat.{ℕ, ◌+◌, ◌≤◌}
 use native.Mathlib.Omega.{arith}
-use lib.ListN.{length, drop}
-use Rattle.graph.specs.Edges.{edges_of, weighted}
-use Rattle.lists.specs.Walks.{start_of}
-use Rattle.lists.proofs.Placing.{Holds, none, turn, step, done}
-use borrow.Author.Rules.{rules}
+use Rattle.lists.proofs.Placing.{none, turn, step, done}
 use Rattle.lists.proofs.place_entries.Goals as goal
 
 pub loop-left-init : goal.loop-left-init

@@ -1,7 +1,6 @@
 -- `lists::put` meets its contract. Assumes nothing.
 use native.Mathlib.Omega.{arith}
 use lib.ListN.{length-set}
-use borrow.Author.Rules.{rules}
 use Rattle.lists.proofs.put.Goals as goal
 
 pub bounds-w-nodes : goal.bounds-w-nodes

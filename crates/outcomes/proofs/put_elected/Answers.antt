@@ -5,7 +5,6 @@ use native.Mathlib.Omega.{arith}
 use lib.ListN.{length}
 use lib.Seq.{length-take-le}
 use Rattle.outcomes.proofs.Taken.{least_taken}
-use borrow.Author.Rules.{rules}
 use Rattle.outcomes.proofs.put_elected.Goals as goal
 
 pub slice_bounds-put_election-end : goal.slice_bounds-put_election-end

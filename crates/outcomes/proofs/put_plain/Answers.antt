@@ -2,7 +2,6 @@
 use mathlib.Core.Path.{sym}
 use native.Mathlib.Omega.{arith}
 use lib.Seq.{length-take-le}
-use borrow.Author.Rules.{rules}
 use Rattle.outcomes.proofs.put_plain.Goals as goal
 
 pub slice_bounds-put_answer-end : goal.slice_bounds-put_answer-end

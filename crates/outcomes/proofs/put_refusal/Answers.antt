@@ -1,5 +1,4 @@
 -- `outcomes::put_refusal` meets its contract. Assumes nothing.
-use borrow.Author.Rules.{rules}
 use Rattle.outcomes.proofs.put_refusal.Goals as goal
 
 pub returns : goal.returns

@@ -1,5 +1,4 @@
 -- `outcomes::settings_of` meets its contract. Assumes nothing.
-use borrow.Author.Rules.{rules}
 use Rattle.outcomes.proofs.settings_of.Goals as goal
 
 pub returns : goal.returns

@@ -1,7 +1,7 @@
 -- `pagerank::advance` meets its contract: after i nodes their entries are moved, and their changes added. Assumes nothing.
-use Rattle.std.proofs.Common.{ℕ, ◌+◌, ◌-◌, ◌*◌, ◌≤◌, length, arith, rules}
+use Rattle.std.proofs.Common.{arith}
 use lib.Ieee.{of_bits}
-use Rattle.pagerank.proofs.Nodes.{Advancing, advancing_none, advancing_more, advancing_done}
+use Rattle.pagerank.proofs.Nodes.{advancing_none, advancing_more, advancing_done}
 use Rattle.pagerank.proofs.advance.Goals as goal
 
 pub loop-i-init : goal.loop-i-init

@@ -1,7 +1,6 @@
 -- `pagerank::advance` meets its contract: after i nodes their entries are moved, and their changes added. Assumes nothing.
-use Rattle.std.proofs.Common.{ℕ, ◌+◌, ◌-◌, ◌*◌, ◌≤◌, length, arith, rules}
-use lib.Ieee.{of_bits}
-use Rattle.pagerank.proofs.Nodes.{Advancing, advancing_none, advancing_more, advancing_done}
+use Rattle.std.proofs.Common.{◌-◌, ◌≤◌}
+use Rattle.pagerank.proofs.Nodes.{Advancing}
 use Rattle.pagerank.proofs.advance.Given as goal
 
 abbrev pub invariant-loop-i : goal.invariant-loop-i

@@ -1,5 +1,5 @@
 -- `pagerank::dangling_sum` meets its contract: nothing is added where no node dangles, else after i nodes the dangling ones among them are. Assumes nothing.
-use Rattle.std.proofs.Common.{◌≡◌, ℕ, ◌-◌, ◌≤◌, ap, ◌∙◌, arith, rules}
+use Rattle.std.proofs.Common.{ℕ, ap, ◌∙◌, arith}
 use lib.Ieee.{of_bits}
 use Rattle.regions.specs.Region.{zero_f}
 use Rattle.rounds.specs.Rounds.{after}

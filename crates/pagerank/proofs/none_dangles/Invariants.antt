@@ -1,10 +1,9 @@
 -- `pagerank::none_dangles` meets its contract: after i nodes none of them dangled. Assumes nothing.
-use Rattle.std.proofs.Common.{◌≡◌, ℕ, ◌-◌, ◌<◌, ◌≤◌, false, arith, rules}
-use lib.Ieee.{of_bits, eq}
+use Rattle.std.proofs.Common.{◌≡◌, ℕ, ◌-◌, ◌<◌, ◌≤◌, false}
+use lib.Ieee.{eq}
 use Rattle.regions.specs.Region.{zero_f}
 use Rattle.rounds.specs.Vectors.{entry}
 use Rattle.links.specs.Links.{outs_in}
-use Rattle.pagerank.proofs.Nodes.{none_false, none_more}
 use Rattle.pagerank.proofs.none_dangles.Given as goal
 
 abbrev pub invariant-loop-i : goal.invariant-loop-i

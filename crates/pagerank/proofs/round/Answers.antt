@@ -1,5 +1,5 @@
 -- `pagerank::round` meets its contract: the next vector is filled, grown, and becomes the current one. Assumes nothing.
-use Rattle.std.proofs.Common.{◌≡◌, refl, arith, rules}
+use Rattle.std.proofs.Common.{arith}
 use lib.Ieee.{of_bits}
 use Rattle.pagerank.proofs.Nodes.{spread_pre, round_done, base_is}
 use Rattle.pagerank.proofs.round.Goals as goal

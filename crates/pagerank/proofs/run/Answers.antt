@@ -2,7 +2,6 @@
 use Rattle.links.specs.Links.{links_in}
 use Rattle.pagerank.specs.PageRank.{pagerank_step}
 use Rattle.links.proofs.Rounds.{run_none, run_some}
-use Rattle.std.proofs.Common.{rules}
 use Rattle.pagerank.proofs.run.Goals as goal
 
 pub returns-then-nodes-eq0 : goal.returns-then-nodes-eq0

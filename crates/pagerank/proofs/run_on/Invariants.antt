@@ -1,10 +1,9 @@
 -- `pagerank::run_on` meets its contract: the rounds left from the kth state end where all do. Assumes nothing.
-use Rattle.std.proofs.Common.{◌≡◌, ℕ, ◌-◌, ◌≤◌, ap, arith, rules}
-use lib.Ieee.{binary64, mul}
+use Rattle.std.proofs.Common.{◌-◌, ◌≤◌}
 use Rattle.links.specs.Links.{links_in}
 use Rattle.pagerank.specs.PageRank.{pagerank_next, pagerank_step}
-use Rattle.links.proofs.Rounds.{pre_kept, Running, running_none, running_more, running_met, running_over}
-use Rattle.pagerank.proofs.Nodes.{none_kept, round_kept, pagerank_is}
+use Rattle.links.proofs.Rounds.{Running}
+use Rattle.pagerank.proofs.Nodes.{pagerank_is}
 use Rattle.pagerank.proofs.run_on.Given as goal
 
 abbrev pub invariant-loop-k : goal.invariant-loop-k

@@ -1,8 +1,7 @@
 -- `pagerank::spread` meets its contract: after v nodes they have given. Assumes nothing.
-use Rattle.std.proofs.Common.{◌≡◌, ℕ, ◌-◌, ◌≤◌, List, sym, refl, ap, ◌∙◌, arith, rules}
+use Rattle.std.proofs.Common.{List, refl, ap, ◌∙◌, arith}
 use lib.Ieee.{Float}
-use Rattle.rounds.specs.Rounds.{after}
-use Rattle.rounds.specs.Vectors.{current_in, next_in, Vectors}
+use Rattle.rounds.specs.Vectors.{current_in, next_in}
 use Rattle.links.specs.Links.{Links, links_in}
 use Rattle.pagerank.specs.PageRank.{pagerank_node}
 use Rattle.links.proofs.Turns.{links_kept, nodes_none, nodes_more, nodes_done}

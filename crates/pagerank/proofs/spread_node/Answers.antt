@@ -1,5 +1,5 @@
 -- `pagerank::spread_node` meets its contract: above zero it distributes, else nothing changes. Assumes nothing.
-use Rattle.std.proofs.Common.{arith, rules}
+use Rattle.std.proofs.Common.{arith}
 use lib.Ieee.{of_bits}
 use Rattle.pagerank.proofs.Nodes.{node_gives, node_keeps}
 use Rattle.pagerank.proofs.spread_node.Goals as goal

@@ -1,7 +1,6 @@
 -- `pagerank::start_wrong` meets its contract. Assumes nothing.
-use Rattle.std.proofs.Common.{◌≡◌, sym, ap, ◌∙◌, rules, le-ltb, lt-ltb}
-use lib.Ieee.{Float, of_bits, lt}
-use Rattle.pagerank.specs.PageRank.{tiny}
+use Rattle.std.proofs.Common.{le-ltb, lt-ltb}
+use lib.Ieee.{of_bits}
 use Rattle.pagerank.proofs.start_wrong.Goals as goal
 
 pub returns-then-nodes-gt0 : goal.returns-then-nodes-gt0

@@ -1,5 +1,5 @@
 -- `pagerank::with_dangling` meets its contract: only a node that dangles is read. Assumes nothing.
-use Rattle.std.proofs.Common.{◌≡◌, ◌∙◌, arith, rules}
+use Rattle.std.proofs.Common.{◌∙◌, arith}
 use lib.Ieee.{of_bits}
 use Rattle.pagerank.proofs.Nodes.{dangling_at, dangling_yes, dangling_no}
 use Rattle.pagerank.proofs.with_dangling.Goals as goal

@@ -1,9 +1,7 @@
 -- `pair_search::enter` meets its contract. Assumes nothing.
-use mathlib.Core.Path.{◌≡◌, refl, sym, ap, ◌∙◌}
-use Prim.Native.Nat.{◌+◌}
+use mathlib.Core.Path.{refl, sym, ◌∙◌}
 use native.Mathlib.Omega.{arith}
 use Rattle.pair_search.proofs.Entering.{enter_long, pair_slot, paired_yes, paired_no}
-use borrow.Author.Rules.{rules}
 use Rattle.pair_search.proofs.enter.Goals as goal
 
 pub enter-step-requires : goal.enter-step-requires

@@ -1,16 +1,8 @@
 -- `pair_search::search_on` meets its contract: before each visit the search is as `Run` and `RunPairs` say. Assumes nothing.
-use mathlib.Core.Bool.{Bool}
-use mathlib.Core.List.{List}
-use Prim.Native.Nat.{ℕ, ◌+◌, ◌-◌}
 use native.Mathlib.Omega.{arith}
-use lib.ListN.{get_or}
-use Rattle.graph.specs.Edges.{Edge}
 use Rattle.hops.specs.Search.{graph_of}
-use Rattle.predecessors.specs.Tracks.{Tracked}
 use Rattle.predecessors.proofs.Tours.{Run, run_none, run_stays, run_step, run_paths}
-use Rattle.pair_search.specs.Pairs.{TrackedPairs}
-use Rattle.pair_search.proofs.Runs.{RunPairs, run_pairs_none, run_pairs_visiting, run_pairs_step}
-use borrow.Author.Rules.{rules}
+use Rattle.pair_search.proofs.Runs.{run_pairs_none, run_pairs_visiting, run_pairs_step}
 use Rattle.pair_search.proofs.search_on.Goals as goal
 use Rattle.pair_search.proofs.search_on.Goals.{At-loop-head}
 

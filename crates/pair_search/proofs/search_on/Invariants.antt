@@ -2,15 +2,13 @@
 use mathlib.Core.Bool.{Bool}
 use mathlib.Core.List.{List}
 use Prim.Native.Nat.{ℕ, ◌+◌, ◌-◌}
-use native.Mathlib.Omega.{arith}
 use lib.ListN.{get_or}
 use Rattle.graph.specs.Edges.{Edge}
 use Rattle.hops.specs.Search.{graph_of}
 use Rattle.predecessors.specs.Tracks.{Tracked}
-use Rattle.predecessors.proofs.Tours.{Run, run_none, run_stays, run_step, run_paths}
+use Rattle.predecessors.proofs.Tours.{Run}
 use Rattle.pair_search.specs.Pairs.{TrackedPairs}
-use Rattle.pair_search.proofs.Runs.{RunPairs, run_pairs_none, run_pairs_visiting, run_pairs_step}
-use borrow.Author.Rules.{rules}
+use Rattle.pair_search.proofs.Runs.{RunPairs}
 use Rattle.pair_search.proofs.search_on.Given as goal
 
 abbrev pub invariant-loop-head : goal.invariant-loop-head

@@ -1,17 +1,12 @@
 -- `pair_search::visit` meets its contract: at each entry the search is as `TourPairs` says. Assumes nothing.
 use mathlib.Core.Path.{sym, ◌∙◌}
-use mathlib.Core.Bool.{Bool}
-use mathlib.Core.List.{List}
-use Prim.Native.Nat.{ℕ, ◌+◌, ◌-◌}
+use Prim.Native.Nat.{◌+◌}
 use native.Mathlib.Omega.{arith}
 use lib.ListN.{get_or}
-use Rattle.graph.specs.Edges.{Edge}
 use Rattle.hops.specs.Search.{graph_of}
 use Rattle.hops.proofs.Scans.{grown_most}
-use Rattle.predecessors.specs.Tracks.{Tracked}
 use Rattle.predecessors.proofs.Tours.{reads_in, place_fits}
 use Rattle.pair_search.proofs.Tours.{TourPairs, pairs_none, pairs_pre, pairs_in_rows, pairs_row_in, pairs_step, pairs_stays, pairs_paths, pairs_end, pairs_done}
-use borrow.Author.Rules.{rules}
 use Rattle.pair_search.proofs.visit.Goals as goal
 use Rattle.pair_search.proofs.visit.Goals.{At-loop-p}
 

@@ -1,6 +1,5 @@
 -- `pairs::first_place` meets its contract. Assumes nothing.
 use borrow.Author.Tests.{lt-ltb, le-ltb}
-use borrow.Author.Rules.{rules}
 use Rattle.pairs.proofs.first_place.Goals as goal
 
 pub returns-then-a-mark : goal.returns-then-a-mark

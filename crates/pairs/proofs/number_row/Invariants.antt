@@ -1,9 +1,6 @@
 -- `pairs::number_row` meets its contract: before place p, the entries from a on are numbered. Assumes nothing.
-use mathlib.Core.Path.{◌≡◌, subst}
-use Prim.Native.Nat.{ℕ, ◌≤◌, ◌-◌}
-use native.Mathlib.Omega.{arith}
-use lib.ListN.{length-set}
-use Rattle.pairs.proofs.Numbering.{RowSeen, RowTurn, row_none, row_turn, place_low, row_more, row_done}
+use Prim.Native.Nat.{◌≤◌, ◌-◌}
+use Rattle.pairs.proofs.Numbering.{RowSeen}
 use Rattle.pairs.proofs.number_row.Given as goal
 
 abbrev pub invariant-loop-p : goal.invariant-loop-p

@@ -1,10 +1,6 @@
 -- `pairs::write_back` meets its contract: the edges from e on have moved their cursors and have their totals. Assumes nothing.
-use mathlib.Core.Bool.{true}
-use Prim.Native.Nat.{◌≤◌}
 use native.Mathlib.Omega.{arith}
-use lib.ListN.{length}
-use Rattle.pairs.specs.Writes.{back_of}
-use Rattle.pairs.proofs.Walking.{Results, results_none, Moved, moved_none, back_pre, back_moved, back_more, back_done}
+use Rattle.pairs.proofs.Walking.{results_none, moved_none, back_pre, back_moved, back_more, back_done}
 use Rattle.pairs.proofs.write_back.Goals as goal
 
 pub loop-e-init : goal.loop-e-init

@@ -1,10 +1,7 @@
 -- `pairs::write_forward` meets its contract: the edges from e on have moved their cursors and have their totals. Assumes nothing.
-use mathlib.Core.Bool.{false}
-use Prim.Native.Nat.{◌≤◌}
 use native.Mathlib.Omega.{arith}
-use lib.ListN.{length, length-set}
-use Rattle.pairs.specs.Writes.{total_of}
-use Rattle.pairs.proofs.Walking.{Results, results_none, Moved, moved_none, ForwardTurn, forward_turn, forward_moved, forward_more, forward_done}
+use lib.ListN.{length-set}
+use Rattle.pairs.proofs.Walking.{results_none, moved_none, ForwardTurn, forward_turn, forward_moved, forward_more, forward_done}
 use Rattle.pairs.proofs.write_forward.Goals as goal
 use Rattle.pairs.proofs.write_forward.Goals.{In-loop-e}
 

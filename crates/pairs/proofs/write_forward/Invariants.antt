@@ -1,10 +1,9 @@
 -- `pairs::write_forward` meets its contract: the edges from e on have moved their cursors and have their totals. Assumes nothing.
 use mathlib.Core.Bool.{false}
 use Prim.Native.Nat.{◌≤◌}
-use native.Mathlib.Omega.{arith}
-use lib.ListN.{length, length-set}
+use lib.ListN.{length}
 use Rattle.pairs.specs.Writes.{total_of}
-use Rattle.pairs.proofs.Walking.{Results, results_none, Moved, moved_none, ForwardTurn, forward_turn, forward_moved, forward_more, forward_done}
+use Rattle.pairs.proofs.Walking.{Results, Moved}
 use Rattle.pairs.proofs.write_forward.Given as goal
 
 abbrev pub invariant-loop-e : goal.invariant-loop-e

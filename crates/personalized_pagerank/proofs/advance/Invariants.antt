@@ -1,13 +1,11 @@
 -- `personalized_pagerank::advance` meets its contract: after i nodes both vectors are rewritten up to i, and the sum has i changes. Assumes nothing.
-use Rattle.std.proofs.Common.{◌≡◌, ◌-◌, ◌*◌, ◌≤◌, le_refl, arith, length-set, rules}
-use lib.Ieee.{of_bits}
+use Rattle.std.proofs.Common.{◌≡◌, ◌-◌, ◌≤◌}
 use Rattle.regions.specs.Region.{zero_f}
 use Rattle.rounds.specs.Rounds.{after}
 use Rattle.rounds.specs.Vectors.{entry, next_in}
-use Rattle.rounds.proofs.Rounds.{after_none}
-use Rattle.rounds.proofs.Passes.{Rewritten, rewritten_none, rewritten_more}
+use Rattle.rounds.proofs.Passes.{Rewritten}
 use Rattle.personalized_pagerank.specs.Personalized.{personal_in, personal_base}
-use Rattle.personalized_pagerank.proofs.Personal.{moving, base_again, change_again, renewed}
+use Rattle.personalized_pagerank.proofs.Personal.{moving}
 use Rattle.personalized_pagerank.proofs.advance.Given as goal
 
 abbrev pub invariant-loop-i : goal.invariant-loop-i

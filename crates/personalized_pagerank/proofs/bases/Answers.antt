@@ -1,10 +1,10 @@
 -- `personalized_pagerank::bases` meets its contract: after j nodes their entries are begun. Assumes nothing.
-use Rattle.std.proofs.Common.{◌≡◌, ℕ, ◌+◌, ◌-◌, ◌*◌, ◌≤◌, length, ap, ◌∙◌, arith, rules}
+use Rattle.std.proofs.Common.{◌+◌, ◌*◌, ap, ◌∙◌, arith}
 use lib.Ieee.{Float, nan, binary64, of_bits, add, sub, mul}
 use Rattle.regions.specs.Doubles.{one}
 use Rattle.regions.specs.Region.{zero_f}
 use Rattle.personalized_pagerank.specs.Personalized.{personal_in, personal_base}
-use Rattle.links.proofs.Turns.{Dividing, dividing_none, dividing_more, dividing_done}
+use Rattle.links.proofs.Turns.{dividing_none, dividing_more, dividing_done}
 use Rattle.personalized_pagerank.proofs.Personal.{personal_at_lem}
 use Rattle.personalized_pagerank.proofs.bases.Goals as goal
 

@@ -1,5 +1,5 @@
 -- `personalized_pagerank::begin` meets its contract. Assumes nothing.
-use Rattle.std.proofs.Common.{◌≡◌, refl, arith, rules}
+use Rattle.std.proofs.Common.{refl, arith}
 use Rattle.personalized_pagerank.proofs.Personal.{begin_divide_pre, begin_apart, begin_room, personal_begun}
 use Rattle.personalized_pagerank.proofs.begin.Goals as goal
 

@@ -1,5 +1,4 @@
 -- `personalized_pagerank::chosen` meets its contract. Assumes nothing.
-use Rattle.std.proofs.Common.{◌≡◌, rules}
 use Rattle.personalized_pagerank.proofs.chosen.Goals as goal
 
 pub returns-then-counts : goal.returns-then-counts

@@ -1,6 +1,5 @@
 -- `personalized_pagerank::counts` meets its contract. Assumes nothing.
 use lib.Ieee.{of_bits}
-use Rattle.std.proofs.Common.{rules}
 use Rattle.personalized_pagerank.proofs.counts.Goals as goal
 
 pub returns-then-given : goal.returns-then-given

@@ -1,6 +1,5 @@
 -- `personalized_pagerank::damping_wrong` meets its contract. Assumes nothing.
 use lib.Ieee.{of_bits}
-use Rattle.std.proofs.Common.{rules}
 use Rattle.personalized_pagerank.proofs.damping_wrong.Goals as goal
 
 pub returns-then-damping : goal.returns-then-damping

@@ -1,7 +1,5 @@
 -- `personalized_pagerank::dangle` meets its contract: after j nodes they have gained. Assumes nothing.
-use Rattle.std.proofs.Common.{ℕ, ◌-◌, ◌≤◌, length, arith, rules}
-use Rattle.rounds.specs.Rounds.{after}
-use Rattle.rounds.specs.Vectors.{current_in, next_in, Vectors}
+use Rattle.std.proofs.Common.{arith}
 use Rattle.personalized_pagerank.specs.Personalized.{personal_in, gains_part}
 use Rattle.links.proofs.Turns.{nodes_none, nodes_done}
 use Rattle.personalized_pagerank.proofs.Personal.{dangle_more}

@@ -1,5 +1,5 @@
 -- `personalized_pagerank::round` meets its contract: the next vector is grown and becomes the current one, and another is begun. Assumes nothing.
-use Rattle.std.proofs.Common.{arith, rules}
+use Rattle.std.proofs.Common.{arith}
 use Rattle.personalized_pagerank.proofs.Personal.{personal_round_done}
 use Rattle.personalized_pagerank.proofs.round.Goals as goal
 

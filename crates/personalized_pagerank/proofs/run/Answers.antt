@@ -1,10 +1,9 @@
 -- `personalized_pagerank::run` meets its contract: the rounds left from the kth state end where all do. Assumes nothing.
-use Rattle.std.proofs.Common.{◌≡◌, ℕ, ◌-◌, ◌≤◌, ap, arith, rules}
+use Rattle.std.proofs.Common.{ap, arith}
 use lib.Ieee.{binary64, mul}
 use Rattle.links.specs.Links.{links_in}
 use Rattle.personalized_pagerank.specs.Personalized.{personal_in, personal_next, personal_step}
-use Rattle.personalized_pagerank.specs.Steps.{RoundPre}
-use Rattle.links.proofs.Rounds.{Running, running_none, running_more, running_met, running_over}
+use Rattle.links.proofs.Rounds.{running_none, running_more, running_met, running_over}
 use Rattle.personalized_pagerank.proofs.Personal.{personal_is, personal_round_kept, again_pre}
 use Rattle.personalized_pagerank.proofs.run.Goals as goal
 

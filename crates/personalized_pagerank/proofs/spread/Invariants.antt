@@ -1,13 +1,9 @@
 -- `personalized_pagerank::spread` meets its contract: after v nodes they have given. Assumes nothing.
-use Rattle.std.proofs.Common.{◌≡◌, ℕ, ◌-◌, ◌≤◌, List, sym, refl, ap, ◌∙◌, arith, rules}
-use lib.Ieee.{Float}
+use Rattle.std.proofs.Common.{◌-◌, ◌≤◌}
 use Rattle.rounds.specs.Rounds.{after}
 use Rattle.rounds.specs.Vectors.{current_in, next_in, Vectors}
-use Rattle.links.specs.Links.{Links, links_in}
+use Rattle.links.specs.Links.{links_in}
 use Rattle.personalized_pagerank.specs.Personalized.{personal_in, personal_node}
-use Rattle.links.proofs.Turns.{links_kept, nodes_none, nodes_more, nodes_done}
-use Rattle.links.proofs.Rounds.{pre_kept}
-use Rattle.personalized_pagerank.proofs.Personal.{personal_kept}
 use Rattle.personalized_pagerank.proofs.spread.Given as goal
 
 abbrev pub invariant-loop-v : goal.invariant-loop-v

@@ -1,5 +1,5 @@
 -- `personalized_pagerank::spread_node` meets its contract: above zero it distributes, else it dangles. Assumes nothing.
-use Rattle.std.proofs.Common.{arith, rules}
+use Rattle.std.proofs.Common.{arith}
 use lib.Ieee.{of_bits}
 use Rattle.personalized_pagerank.proofs.Personal.{personal_gives, personal_dangles}
 use Rattle.personalized_pagerank.proofs.spread_node.Goals as goal

@@ -1,9 +1,6 @@
 -- `polls::count_votes` meets its contract: after i edges their votes are counted. Assumes nothing.
-use Prim.Native.Nat.{◌-◌}
 use native.Mathlib.Omega.{arith}
-use lib.ListN.{length}
-use Rattle.polls.proofs.Voting.{Voting, voting_none, vote_pre, voting_more, voting_all}
-use borrow.Author.Rules.{rules}
+use Rattle.polls.proofs.Voting.{voting_none, vote_pre, voting_more, voting_all}
 use Rattle.polls.proofs.count_votes.Goals as goal
 
 pub loop-i-init : goal.loop-i-init

@@ -1,9 +1,7 @@
 -- `polls::count_votes` meets its contract: after i edges their votes are counted. Assumes nothing.
 use Prim.Native.Nat.{◌-◌}
-use native.Mathlib.Omega.{arith}
 use lib.ListN.{length}
-use Rattle.polls.proofs.Voting.{Voting, voting_none, vote_pre, voting_more, voting_all}
-use borrow.Author.Rules.{rules}
+use Rattle.polls.proofs.Voting.{Voting}
 use Rattle.polls.proofs.count_votes.Given as goal
 
 abbrev pub invariant-loop-i : goal.invariant-loop-i

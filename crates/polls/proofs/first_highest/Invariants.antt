@@ -1,12 +1,9 @@
 -- `polls::first_highest` meets its contract: of the nodes up to v the first highest is known. Assumes nothing.
-use mathlib.Core.Path.{◌≡◌, ap, ◌∙◌}
-use Prim.Native.Nat.{ℕ, ◌+◌, ◌≤◌, ◌-◌}
-use native.Mathlib.Omega.{arith}
+use mathlib.Core.Path.{◌≡◌}
+use Prim.Native.Nat.{◌+◌, ◌≤◌, ◌-◌}
 use lib.ListN.{get_or}
-use lib.Ieee.{Float, nan}
+use lib.Ieee.{nan}
 use Rattle.polls.specs.Votes.{first_highest}
-use Rattle.polls.proofs.Voting.{highest_none, highest_more, highest_among}
-use borrow.Author.Rules.{rules}
 use Rattle.polls.proofs.first_highest.Given as goal
 
 abbrev pub invariant-loop-v : goal.invariant-loop-v

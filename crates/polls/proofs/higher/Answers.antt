@@ -1,5 +1,4 @@
 -- `polls::higher` meets its contract. Assumes nothing.
-use borrow.Author.Rules.{rules}
 use Rattle.polls.proofs.higher.Goals as goal
 
 pub returns-then-w-nodes : goal.returns-then-w-nodes

@@ -1,11 +1,11 @@
 -- `polls::lose` meets its contract: after k entries each has lost the decay. Assumes nothing.
 use mathlib.Core.Path.{◌≡◌, refl, ap, ◌∙◌}
-use mathlib.Core.List.{List, foldl}
-use Prim.Native.Nat.{ℕ, ◌≤◌, ◌<◌, ◌-◌}
+use mathlib.Core.List.{foldl}
+use Prim.Native.Nat.{ℕ, ◌<◌}
 use native.Mathlib.Omega.{arith}
-use lib.ListN.{length, get_or, take, length-set}
+use lib.ListN.{length, get_or}
 use lib.Seq.{take_all}
-use lib.Ieee.{Float, of_bits}
+use lib.Ieee.{of_bits}
 use Rattle.rows.specs.Rows.{row_at}
 use Rattle.polls.specs.Votes.{weaker}
 use Rattle.polls.proofs.Voting.{weaker_more}

@@ -1,15 +1,10 @@
 -- `polls::lose` meets its contract: after k entries each has lost the decay. Assumes nothing.
-use mathlib.Core.Path.{◌≡◌, refl, ap, ◌∙◌}
-use mathlib.Core.List.{List, foldl}
-use Prim.Native.Nat.{ℕ, ◌≤◌, ◌<◌, ◌-◌}
-use native.Mathlib.Omega.{arith}
-use lib.ListN.{length, get_or, take, length-set}
-use lib.Seq.{take_all}
-use lib.Ieee.{Float, of_bits}
+use mathlib.Core.Path.{◌≡◌}
+use mathlib.Core.List.{foldl}
+use Prim.Native.Nat.{◌≤◌, ◌-◌}
+use lib.ListN.{length, take}
 use Rattle.rows.specs.Rows.{row_at}
 use Rattle.polls.specs.Votes.{weaker}
-use Rattle.polls.proofs.Voting.{weaker_more}
-use borrow.Author.Rules.{rules}
 use Rattle.polls.proofs.lose.Given as goal
 
 abbrev pub invariant-loop-k : goal.invariant-loop-k

@@ -1,12 +1,6 @@
 -- `polls::silence` meets its contract: after i of the elected these score 0. Assumes nothing.
-use Prim.Native.Nat.{ℕ, ◌≤◌, ◌<◌, ◌-◌}
-use mathlib.Core.Path.{◌≡◌}
-use native.Mathlib.Omega.{arith}
-use lib.ListN.{length, get_or}
-use lib.Ieee.{of_bits}
+use Prim.Native.Nat.{◌≤◌, ◌-◌}
 use Rattle.polls.specs.Steps.{Silenced}
-use Rattle.polls.proofs.Voting.{silenced_none, silenced_more}
-use borrow.Author.Rules.{rules}
 use Rattle.polls.proofs.silence.Given as goal
 
 abbrev pub invariant-loop-i : goal.invariant-loop-i

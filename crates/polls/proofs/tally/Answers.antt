@@ -1,7 +1,6 @@
 -- `polls::tally` meets its contract: no votes, then those of all edges. Assumes nothing.
-use mathlib.Core.Path.{◌≡◌, ◌∙◌}
+use mathlib.Core.Path.{◌∙◌}
 use native.Mathlib.Omega.{arith}
-use borrow.Author.Rules.{rules}
 use lib.Ieee.{of_bits}
 use Rattle.polls.proofs.Voting.{tally_clear, tally_all}
 use Rattle.polls.proofs.tally.Goals as goal

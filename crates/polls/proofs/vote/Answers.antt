@@ -2,7 +2,6 @@
 use native.Mathlib.Omega.{arith}
 use lib.ListN.{length-set}
 use Rattle.polls.specs.Steps.{voted}
-use borrow.Author.Rules.{rules}
 use Rattle.polls.proofs.vote.Goals as goal
 
 pub returns-then-directed : goal.returns-then-directed

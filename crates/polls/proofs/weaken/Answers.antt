@@ -1,6 +1,5 @@
 -- `polls::weaken` meets its contract. Assumes nothing.
-use mathlib.Core.Path.{◌≡◌, ap, ◌∙◌}
-use borrow.Author.Rules.{rules}
+use mathlib.Core.Path.{ap, ◌∙◌}
 use lib.ListN.{length, set, length-set}
 use lib.Ieee.{of_bits}
 use Rattle.regions.specs.Region.{zero_f}

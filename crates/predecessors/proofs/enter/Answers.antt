@@ -1,7 +1,6 @@
 -- `predecessors::enter` meets its contract. Assumes nothing.
 use mathlib.Core.Path.{sym, ◌∙◌}
 use Rattle.predecessors.proofs.Entering.{push_pre, entered_yes, entered_no}
-use borrow.Author.Rules.{rules}
 use Rattle.predecessors.proofs.enter.Goals as goal
 
 pub touch-step-requires : goal.touch-step-requires

@@ -1,14 +1,7 @@
 -- `predecessors::search_on` meets its contract: before each visit the search is as `Run` says. Assumes nothing.
-use mathlib.Core.Bool.{Bool}
-use mathlib.Core.List.{List}
-use Prim.Native.Nat.{ℕ, ◌+◌, ◌-◌}
 use native.Mathlib.Omega.{arith}
-use lib.ListN.{get_or}
-use Rattle.graph.specs.Edges.{Edge}
 use Rattle.hops.specs.Search.{graph_of}
-use Rattle.predecessors.specs.Tracks.{Tracked}
 use Rattle.predecessors.proofs.Tours.{Run, run_none, run_visiting, run_stays, run_step, run_paths}
-use borrow.Author.Rules.{rules}
 use Rattle.predecessors.proofs.search_on.Goals as goal
 use Rattle.predecessors.proofs.search_on.Goals.{At-loop-head}
 

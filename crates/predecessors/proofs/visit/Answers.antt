@@ -1,16 +1,11 @@
 -- `predecessors::visit` meets its contract: at each entry the search is as `Tour` says. Assumes nothing.
 use mathlib.Core.Path.{sym, ◌∙◌}
-use mathlib.Core.Bool.{Bool}
-use mathlib.Core.List.{List}
-use Prim.Native.Nat.{ℕ, ◌+◌, ◌-◌}
+use Prim.Native.Nat.{◌+◌}
 use native.Mathlib.Omega.{arith}
 use lib.ListN.{get_or}
-use Rattle.graph.specs.Edges.{Edge}
 use Rattle.hops.specs.Search.{graph_of}
 use Rattle.hops.proofs.Scans.{grown_most}
-use Rattle.predecessors.specs.Tracks.{Tracked}
 use Rattle.predecessors.proofs.Tours.{Tour, reads_in, tour_none, in_rows, tour_pre, tour_stays, tour_step, tour_paths, place_fits, tour_done}
-use borrow.Author.Rules.{rules}
 use Rattle.predecessors.proofs.visit.Goals as goal
 use Rattle.predecessors.proofs.visit.Goals.{At-loop-p}
 

@@ -1,9 +1,7 @@
 -- `reach::meet` meets its contract. Assumes nothing.
-use mathlib.Core.Path.{◌≡◌}
 use native.Mathlib.Omega.{arith}
 use borrow.Author.Tests.{eq-eqb, ne_eqb}
 use lib.ListN.{length-set}
-use borrow.Author.Rules.{rules}
 use Rattle.reach.proofs.meet.Goals as goal
 
 pub offset_bounds-w-place : goal.offset_bounds-w-place

@@ -4,7 +4,6 @@ use native.Mathlib.Omega.{arith}
 use lib.ListN.{length-set}
 use Rattle.regions.proofs.Frames.{frame2_then}
 use Rattle.reach.proofs.Within.{opened_walk, opened_kept, opened_near}
-use borrow.Author.Rules.{rules}
 use Rattle.reach.proofs.reach_from.Goals as goal
 
 pub overflow_add-w : goal.overflow_add-w

@@ -1,16 +1,11 @@
 -- `reach::reach_within` meets its contract: before each node of the queue the search is as `Going` says. Assumes nothing.
 use mathlib.Core.Path.{refl}
-use mathlib.Core.Bool.{Bool}
-use mathlib.Core.List.{List}
-use Prim.Native.Nat.{ℕ, ◌+◌, ◌-◌, ◌≤◌}
+use Prim.Native.Nat.{◌+◌, ◌≤◌}
 use native.Mathlib.Omega.{arith}
 use lib.ListN.{get_or}
-use Rattle.graph.specs.Edges.{Edge}
 use Rattle.hops.specs.Search.{graph_of}
-use Rattle.reach.specs.Search.{Walk, Near}
 use Rattle.reach.proofs.Walks.{Starts, starts}
 use Rattle.reach.proofs.Within.{Going, going_none, spread_pre, going_stop, going_more}
-use borrow.Author.Rules.{rules}
 use Rattle.reach.proofs.reach_within.Goals as goal
 use Rattle.reach.proofs.reach_within.Goals.{At-loop-head, In-loop-head}
 

@@ -2,12 +2,10 @@
 use mathlib.Core.Bool.{Bool}
 use mathlib.Core.List.{List}
 use Prim.Native.Nat.{ℕ, ◌-◌}
-use native.Mathlib.Omega.{arith}
 use Rattle.graph.specs.Edges.{Edge}
 use Rattle.hops.specs.Search.{graph_of}
 use Rattle.reach.specs.Search.{Walk}
-use Rattle.reach.proofs.Walks.{Spreading, spreading_none, place_in, spreading_done, entry_in, meet_pre, spreading_more, grows_by, starts}
-use borrow.Author.Rules.{rules}
+use Rattle.reach.proofs.Walks.{Spreading}
 use Rattle.reach.proofs.spread.Given as goal
 
 abbrev pub invariant-loop-p : goal.invariant-loop-p

@@ -1,5 +1,5 @@
 -- `reaching::local_reaching` meets its contract: a refusal by its test, the scores by what the steps leave. Assumes nothing.
-use Rattle.std.proofs.Common.{◌≡◌, List, length, arith, rules}
+use Rattle.std.proofs.Common.{List, length, arith}
 use lib.Ieee.{Float}
 use Rattle.graph.specs.Given.{Given, given}
 use Rattle.graph.specs.Pres.{Passed, Limits}

@@ -1,10 +1,8 @@
 -- `reaching::reach_all` meets its contract: after s starts their scores stand, and the workspace is ready for the next. Assumes nothing.
-use Rattle.std.proofs.Common.{◌≡◌, ℕ, ◌-◌, ◌≤◌, Bool, List, length, refl, ap, ◌∙◌, arith, length-set, rules}
-use Rattle.regions.specs.Region.{over, list_of, Frame2}
+use Rattle.std.proofs.Common.{◌≡◌, ℕ, refl, ap, ◌∙◌, arith, length-set}
+use Rattle.regions.specs.Region.{over, list_of}
 use Rattle.regions.proofs.Frames.{frame2_none}
-use Rattle.graph.specs.Edges.{Edge}
 use Rattle.hops.specs.Search.{graph_of}
-use Rattle.reach.specs.Search.{Ground}
 use Rattle.reaching.specs.Reaching.{reach_score}
 use Rattle.reaching.proofs.Starting.{Scoring, scoring_none, from_pre, undo_this, counted, kept_on, scoring_more}
 use Rattle.reaching.proofs.reach_all.Goals as goal

@@ -1,12 +1,10 @@
 -- `reaching::reach_all` meets its contract: after s starts their scores stand, and the workspace is ready for the next. Assumes nothing.
-use Rattle.std.proofs.Common.{◌≡◌, ℕ, ◌-◌, ◌≤◌, Bool, List, length, refl, ap, ◌∙◌, arith, length-set, rules}
-use Rattle.regions.specs.Region.{over, list_of, Frame2}
-use Rattle.regions.proofs.Frames.{frame2_none}
+use Rattle.std.proofs.Common.{◌≡◌, ◌-◌, ◌≤◌, Bool, List, length}
+use Rattle.regions.specs.Region.{Frame2}
 use Rattle.graph.specs.Edges.{Edge}
 use Rattle.hops.specs.Search.{graph_of}
 use Rattle.reach.specs.Search.{Ground}
-use Rattle.reaching.specs.Reaching.{reach_score}
-use Rattle.reaching.proofs.Starting.{Scoring, scoring_none, from_pre, undo_this, counted, kept_on, scoring_more}
+use Rattle.reaching.proofs.Starting.{Scoring}
 use Rattle.reaching.proofs.reach_all.Given as goal
 
 abbrev pub invariant-loop-s : goal.invariant-loop-s

@@ -1,5 +1,5 @@
 -- `reaching::share` meets its contract. Assumes nothing.
-use Rattle.std.proofs.Common.{◌≡◌, rules, le-ltb, lt-ltb}
+use Rattle.std.proofs.Common.{le-ltb, lt-ltb}
 use lib.Ieee.{of_bits}
 use Rattle.reaching.proofs.share.Goals as goal
 

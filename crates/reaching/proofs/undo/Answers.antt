@@ -1,6 +1,5 @@
 -- `reaching::undo` meets its contract: after i turns the first i nodes of the queue have no distance. Assumes nothing.
-use Rattle.std.proofs.Common.{◌≡◌, ℕ, ◌-◌, ◌≤◌, subst, arith, rules}
-use Rattle.reaching.specs.Starts.{Undone}
+use Rattle.std.proofs.Common.{◌≡◌, arith}
 use Rattle.reaching.proofs.Undoing.{undone_none, in_queue, distance_in, undone_more}
 use Rattle.reaching.proofs.undo.Goals as goal
 

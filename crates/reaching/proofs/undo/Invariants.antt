@@ -1,7 +1,6 @@
 -- `reaching::undo` meets its contract: after i turns the first i nodes of the queue have no distance. Assumes nothing.
-use Rattle.std.proofs.Common.{◌≡◌, ℕ, ◌-◌, ◌≤◌, subst, arith, rules}
+use Rattle.std.proofs.Common.{◌-◌, ◌≤◌}
 use Rattle.reaching.specs.Starts.{Undone}
-use Rattle.reaching.proofs.Undoing.{undone_none, in_queue, distance_in, undone_more}
 use Rattle.reaching.proofs.undo.Given as goal
 
 abbrev pub invariant-loop-i : goal.invariant-loop-i

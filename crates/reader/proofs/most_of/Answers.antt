@@ -1,7 +1,6 @@
 -- `reader::most_of` meets its contract. Assumes nothing.
 use mathlib.Core.Path.{sym, ap, ◌∙◌}
 use Rattle.reader.specs.Rules.{most_of}
-use borrow.Author.Rules.{rules}
 use Rattle.reader.proofs.most_of.Goals as goal
 
 pub returns-in-Betweenness : goal.returns-in-Betweenness

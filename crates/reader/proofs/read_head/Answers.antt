@@ -3,7 +3,6 @@ use mathlib.Core.Path.{sym, ◌∙◌}
 use native.Mathlib.Omega.{arith}
 use Rattle.lines.proofs.Tops.{fault_below}
 use Rattle.reader.proofs.Jobs.{no_measure, no_top, no_count, a_head}
-use borrow.Author.Rules.{rules}
 use Rattle.reader.proofs.read_head.Goals as goal
 
 pub returns-in_default : goal.returns-in_default

@@ -1,7 +1,6 @@
 -- `reader::read_job` meets its contract. Assumes nothing.
 use mathlib.Core.Path.{refl, sym, ◌∙◌}
 use Rattle.reader.proofs.Jobs.{no_head, no_edges, edges_are, asked, edge_fault}
-use borrow.Author.Rules.{rules}
 use Rattle.reader.proofs.read_job.Goals as goal
 
 pub returns-then-fault-eq0 : goal.returns-then-fault-eq0

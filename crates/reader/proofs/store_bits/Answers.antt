@@ -1,7 +1,6 @@
 -- `reader::store_bits` meets its contract. Assumes nothing.
 use mathlib.Core.Path.{sym}
 use lib.Seq.{set_out}
-use borrow.Author.Rules.{rules}
 use Rattle.reader.proofs.store_bits.Goals as goal
 
 pub returns-else-k-bits : goal.returns-else-k-bits

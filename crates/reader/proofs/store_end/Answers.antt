@@ -3,7 +3,6 @@ use mathlib.Core.Path.{◌≡◌, sym}
 use native.Mathlib.Omega.{arith}
 use Prim.Native.Nat.{min}
 use lib.Seq.{set_out}
-use borrow.Author.Rules.{rules}
 use Rattle.reader.proofs.store_end.Goals as goal
 
 pub returns-then-x-lt4294967295 : goal.returns-then-x-lt4294967295

@@ -2,7 +2,6 @@
 use mathlib.Core.Path.{sym}
 use lib.Seq.{set_out}
 use lib.Ieee.{binary64, of_bits}
-use borrow.Author.Rules.{rules}
 use Rattle.reader.proofs.store_weight.Goals as goal
 
 pub returns-then-k-weights : goal.returns-then-k-weights

@@ -1,13 +1,8 @@
 -- `reader::weights_of` meets its contract. Assumes nothing.
-use mathlib.Core.Path.{◌≡◌, refl, sym, ap, ◌∙◌}
-use mathlib.Core.List.{map}
-use Prim.Native.Nat.{◌≤◌, ◌-◌}
+use mathlib.Core.Path.{refl, sym, ap, ◌∙◌}
 use native.Mathlib.Omega.{arith}
-use lib.ListN.{length, drop, set, length-set}
-use lib.Seq.{sets}
-use lib.Ieee.{binary64, of_bits}
+use lib.ListN.{length, length-set}
 use Rattle.reader.proofs.Weights.{one_weight, no_weight}
-use borrow.Author.Rules.{rules}
 use Rattle.reader.proofs.weights_of.Goals as goal
 
 pub loop-k-init : goal.loop-k-init

@@ -1,13 +1,10 @@
 -- `reader::weights_of` meets its contract. Assumes nothing.
-use mathlib.Core.Path.{◌≡◌, refl, sym, ap, ◌∙◌}
+use mathlib.Core.Path.{◌≡◌}
 use mathlib.Core.List.{map}
 use Prim.Native.Nat.{◌≤◌, ◌-◌}
-use native.Mathlib.Omega.{arith}
-use lib.ListN.{length, drop, set, length-set}
+use lib.ListN.{length, drop}
 use lib.Seq.{sets}
 use lib.Ieee.{binary64, of_bits}
-use Rattle.reader.proofs.Weights.{one_weight, no_weight}
-use borrow.Author.Rules.{rules}
 use Rattle.reader.proofs.weights_of.Given as goal
 
 abbrev pub invariant-loop-k : goal.invariant-loop-k

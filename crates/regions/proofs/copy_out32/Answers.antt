@@ -1,11 +1,11 @@
 -- `regions::copy_out32` meets its contract: after i turns the first i places of the region are written. Assumes nothing.
 use mathlib.Core.Path.{◌≡◌, refl, ap, ◌∙◌}
 use mathlib.Core.List.{List}
-use Prim.Native.Nat.{ℕ, ◌≤◌, ◌-◌, ◌+◌}
+use Prim.Native.Nat.{ℕ, ◌+◌}
 use native.Mathlib.Omega.{arith}
 use borrow.Author.Rules.{rules}
-use lib.ListN.{length, get_or}
-use Rattle.regions.specs.Region.{over, list_of}
+use lib.ListN.{get_or}
+use Rattle.regions.specs.Region.{over}
 use Rattle.regions.proofs.Fronts.{results_none, results_more}
 use Rattle.regions.proofs.Parts.{part_list}
 use Rattle.regions.proofs.copy_out32.Goals as goal

@@ -1,12 +1,12 @@
 -- `regions::copy_outf` meets its contract: after i turns the first i places of the region are written. Assumes nothing.
 use mathlib.Core.Path.{◌≡◌, refl, ap, ◌∙◌}
 use mathlib.Core.List.{List}
-use Prim.Native.Nat.{◌≤◌, ◌-◌, ◌+◌}
+use Prim.Native.Nat.{◌+◌}
 use native.Mathlib.Omega.{arith}
 use borrow.Author.Rules.{rules}
-use lib.ListN.{length, get_or}
+use lib.ListN.{get_or}
 use lib.Ieee.{Float, nan}
-use Rattle.regions.specs.Region.{over, list_of}
+use Rattle.regions.specs.Region.{over}
 use Rattle.regions.proofs.Fronts.{results_none, results_more}
 use Rattle.regions.proofs.Parts.{part_list}
 use Rattle.regions.proofs.copy_outf.Goals as goal

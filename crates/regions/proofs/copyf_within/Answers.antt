@@ -1,10 +1,8 @@
 -- `regions::copyf_within` meets its contract: after i turns the first i places of the region are copied. Assumes nothing.
 use mathlib.Core.Path.{◌≡◌}
-use Prim.Native.Nat.{◌≤◌, ◌<◌, ◌-◌}
+use Prim.Native.Nat.{◌<◌}
 use native.Mathlib.Omega.{arith}
-use borrow.Author.Rules.{rules}
 use lib.Ieee.{nan}
-use Rattle.regions.specs.Region.{Copied}
 use Rattle.regions.proofs.Frames.{copied_none, copied_more, copied_source}
 use Rattle.regions.proofs.copyf_within.Goals as goal
 

@@ -1,11 +1,6 @@
 -- `regions::copyf_within` meets its contract: after i turns the first i places of the region are copied. Assumes nothing.
-use mathlib.Core.Path.{◌≡◌}
-use Prim.Native.Nat.{◌≤◌, ◌<◌, ◌-◌}
-use native.Mathlib.Omega.{arith}
-use borrow.Author.Rules.{rules}
-use lib.Ieee.{nan}
+use Prim.Native.Nat.{◌≤◌, ◌-◌}
 use Rattle.regions.specs.Region.{Copied}
-use Rattle.regions.proofs.Frames.{copied_none, copied_more, copied_source}
 use Rattle.regions.proofs.copyf_within.Given as goal
 
 abbrev pub invariant-loop-i : goal.invariant-loop-i

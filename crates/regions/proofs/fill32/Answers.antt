@@ -1,9 +1,6 @@
 -- `regions::fill32` meets its contract: after i turns the first i places of the region are filled. Assumes nothing.
 use mathlib.Core.Path.{◌≡◌}
-use Prim.Native.Nat.{◌≤◌, ◌-◌}
 use native.Mathlib.Omega.{arith}
-use borrow.Author.Rules.{rules}
-use Rattle.regions.specs.Region.{Filled}
 use Rattle.regions.proofs.Frames.{filled_none, filled_more}
 use Rattle.regions.proofs.fill32.Goals as goal
 

@@ -1,10 +1,6 @@
 -- `regions::fillf` meets its contract: after i turns the first i places of the region are filled. Assumes nothing.
-use mathlib.Core.Path.{◌≡◌}
 use Prim.Native.Nat.{◌≤◌, ◌-◌}
-use native.Mathlib.Omega.{arith}
-use borrow.Author.Rules.{rules}
 use Rattle.regions.specs.Region.{Filled}
-use Rattle.regions.proofs.Frames.{filled_none, filled_more}
 use Rattle.regions.proofs.fillf.Given as goal
 
 abbrev pub invariant-loop-i : goal.invariant-loop-i

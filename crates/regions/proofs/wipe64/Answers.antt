@@ -1,9 +1,8 @@
 -- `regions::wipe64` meets its contract: after i turns the first i places are cleared. Assumes nothing.
 use mathlib.Core.Path.{◌≡◌, refl, ap, ◌∙◌}
-use Prim.Native.Nat.{ℕ, ◌≤◌, ◌-◌}
+use Prim.Native.Nat.{ℕ}
 use native.Mathlib.Omega.{arith}
 use borrow.Author.Rules.{rules}
-use lib.ListN.{length}
 use Rattle.regions.specs.Region.{cleared}
 use Rattle.regions.proofs.Fronts.{cleared_none, cleared_more}
 use Rattle.regions.proofs.wipe64.Goals as goal

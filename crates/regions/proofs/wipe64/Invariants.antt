@@ -1,11 +1,8 @@
 -- `regions::wipe64` meets its contract: after i turns the first i places are cleared. Assumes nothing.
-use mathlib.Core.Path.{◌≡◌, refl, ap, ◌∙◌}
-use Prim.Native.Nat.{ℕ, ◌≤◌, ◌-◌}
-use native.Mathlib.Omega.{arith}
-use borrow.Author.Rules.{rules}
+use mathlib.Core.Path.{◌≡◌}
+use Prim.Native.Nat.{◌≤◌, ◌-◌}
 use lib.ListN.{length}
 use Rattle.regions.specs.Region.{cleared}
-use Rattle.regions.proofs.Fronts.{cleared_none, cleared_more}
 use Rattle.regions.proofs.wipe64.Given as goal
 
 abbrev pub invariant-loop-i : goal.invariant-loop-i

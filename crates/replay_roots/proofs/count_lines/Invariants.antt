@@ -1,5 +1,5 @@
 -- `replay_roots::count_lines` is safe and ends: `at` is at most the length of the text. Assumes nothing.
-use Rattle.std.proofs.Common.{◌-◌, ◌≤◌, length, rules}
+use Rattle.std.proofs.Common.{◌-◌, ◌≤◌, length}
 use Rattle.replay_roots.proofs.count_lines.Given as goal
 
 abbrev pub invariant-loop-at : goal.invariant-loop-at

@@ -1,5 +1,5 @@
 -- `replay_roots::double` is safe: past the test the bits are no NaN's. Assumes nothing.
-use Rattle.std.proofs.Common.{arith, rules}
+use Rattle.std.proofs.Common.{arith}
 use lib.Bits.{and_mask}
 use Rattle.roots.proofs.Doubles.{no_nan}
 use Rattle.replay_roots.proofs.double.Goals as goal

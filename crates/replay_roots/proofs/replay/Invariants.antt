@@ -1,5 +1,5 @@
 -- `replay_roots::replay` is safe and ends: the turns are counted down. Assumes nothing.
-use Rattle.std.proofs.Common.{◌-◌, ◌^◌, ◌≤◌, rules}
+use Rattle.std.proofs.Common.{◌-◌, ◌^◌, ◌≤◌}
 use Rattle.replay_roots.proofs.replay.Given as goal
 
 abbrev pub invariant-loop-turns : goal.invariant-loop-turns

@@ -1,5 +1,4 @@
 -- `replay_roots::same` is safe: past the test x is a number. Assumes nothing.
-use Rattle.std.proofs.Common.{rules}
 use Rattle.roots.proofs.Absolute.{not_nan}
 use Rattle.replay_roots.proofs.same.Goals as goal
 

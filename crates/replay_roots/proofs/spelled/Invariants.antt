@@ -1,5 +1,5 @@
 -- `replay_roots::spelled` is safe and ends: i is at most 16, and the text has 16 bytes. Assumes nothing.
-use Rattle.std.proofs.Common.{◌-◌, ◌≤◌, arith, rules}
+use Rattle.std.proofs.Common.{◌-◌, ◌≤◌}
 use Rattle.replay_roots.proofs.spelled.Given as goal
 
 abbrev pub invariant-loop-i : goal.invariant-loop-i

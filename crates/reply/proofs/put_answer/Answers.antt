@@ -1,6 +1,5 @@
 -- `reply::put_answer` meets its contract. Assumes nothing.
 use Rattle.text.proofs.Stores.{and_then}
-use borrow.Author.Rules.{rules}
 use Rattle.reply.proofs.put_answer.Goals as goal
 
 pub returns : goal.returns

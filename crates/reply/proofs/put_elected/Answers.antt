@@ -1,11 +1,8 @@
 -- `reply::put_elected` meets its contract. Assumes nothing.
-use mathlib.Core.Path.{◌≡◌, refl, ◌∙◌}
-use Prim.Native.Nat.{◌≤◌, ◌-◌, ◌+◌, ◌*◌}
+use mathlib.Core.Path.{refl, ◌∙◌}
 use native.Mathlib.Omega.{arith}
-use lib.ListN.{length}
 use Rattle.reply.specs.Reply.{elected_text}
-use Rattle.reply.proofs.Sequences.{Leads, begun, one_more_line, all_lines}
-use borrow.Author.Rules.{rules}
+use Rattle.reply.proofs.Sequences.{begun, one_more_line, all_lines}
 use Rattle.reply.proofs.put_elected.Goals as goal
 
 pub loop-k-init : goal.loop-k-init

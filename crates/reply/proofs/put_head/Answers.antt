@@ -1,7 +1,6 @@
 -- `reply::put_head` meets its contract. Assumes nothing.
 use native.Mathlib.Omega.{arith}
 use Rattle.text.proofs.Stores.{and_then}
-use borrow.Author.Rules.{rules}
 use Rattle.reply.proofs.put_head.Goals as goal
 
 pub returns : goal.returns

@@ -4,7 +4,6 @@ use native.Mathlib.Omega.{arith}
 use lib.ListN.{length}
 use lib.Seq.{length-take-le}
 use Rattle.lines.proofs.Measures.{name_long}
-use borrow.Author.Rules.{rules}
 use Rattle.reply.proofs.put_name.Goals as goal
 
 pub slice_bounds-put-end : goal.slice_bounds-put-end

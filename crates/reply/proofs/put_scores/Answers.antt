@@ -1,12 +1,9 @@
 -- `reply::put_scores` meets its contract. Assumes nothing.
-use mathlib.Core.Path.{◌≡◌, refl, ◌∙◌}
-use Prim.Native.Nat.{◌≤◌, ◌-◌, ◌+◌, ◌*◌}
+use mathlib.Core.Path.{refl, ◌∙◌}
 use native.Mathlib.Omega.{arith}
-use lib.ListN.{length}
 use lib.Ieee.{nan}
 use Rattle.reply.specs.Reply.{score_text}
-use Rattle.reply.proofs.Sequences.{Leads, begun, one_more_line, all_lines}
-use borrow.Author.Rules.{rules}
+use Rattle.reply.proofs.Sequences.{begun, one_more_line, all_lines}
 use Rattle.reply.proofs.put_scores.Goals as goal
 
 pub loop-k-init : goal.loop-k-init

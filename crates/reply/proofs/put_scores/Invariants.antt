@@ -1,12 +1,10 @@
 -- `reply::put_scores` meets its contract. Assumes nothing.
-use mathlib.Core.Path.{◌≡◌, refl, ◌∙◌}
+use mathlib.Core.Path.{◌≡◌}
 use Prim.Native.Nat.{◌≤◌, ◌-◌, ◌+◌, ◌*◌}
-use native.Mathlib.Omega.{arith}
 use lib.ListN.{length}
 use lib.Ieee.{nan}
 use Rattle.reply.specs.Reply.{score_text}
-use Rattle.reply.proofs.Sequences.{Leads, begun, one_more_line, all_lines}
-use borrow.Author.Rules.{rules}
+use Rattle.reply.proofs.Sequences.{Leads}
 use Rattle.reply.proofs.put_scores.Given as goal
 
 abbrev pub invariant-loop-k : goal.invariant-loop-k

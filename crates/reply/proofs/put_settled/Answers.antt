@@ -1,6 +1,5 @@
 -- `reply::put_settled` meets its contract. Assumes nothing.
 use native.Mathlib.Omega.{arith}
-use borrow.Author.Rules.{rules}
 use Rattle.reply.proofs.put_settled.Goals as goal
 
 pub returns-in-Yes : goal.returns-in-Yes

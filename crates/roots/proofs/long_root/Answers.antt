@@ -1,10 +1,10 @@
 -- `roots::long_root` meets its contract. The loop's invariant: i digits of the root are in q. The measure is the digits to come. Assumes nothing.
-use Prim.Native.Nat.{ℕ, ◌≤◌, ◌<◌, ◌-◌, ◌*◌, ◌%◌, ◌^◌}
+use Prim.Native.Nat.{ℕ, ◌<◌, ◌-◌, ◌*◌, ◌%◌, ◌^◌}
 use mathlib.Core.Path.{◌≡◌}
 use native.Mathlib.Omega.{arith}
 use lib.Bits.{bit_and, and_mask}
 use Rattle.roots.proofs.Squares.{is_isqrt}
-use Rattle.roots.proofs.Digits.{Taken, none, one, zero, all, below}
+use Rattle.roots.proofs.Digits.{none, one, zero, all, below}
 use Rattle.roots.proofs.long_root.Goals as goal
 use Rattle.roots.proofs.long_root.Goals.{In-loop-i}
 

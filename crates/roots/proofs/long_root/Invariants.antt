@@ -1,10 +1,6 @@
 -- `roots::long_root` meets its contract. The loop's invariant: i digits of the root are in q. The measure is the digits to come. Assumes nothing.
-use Prim.Native.Nat.{ℕ, ◌≤◌, ◌<◌, ◌-◌, ◌*◌, ◌%◌, ◌^◌}
-use mathlib.Core.Path.{◌≡◌}
-use native.Mathlib.Omega.{arith}
-use lib.Bits.{bit_and, and_mask}
-use Rattle.roots.proofs.Squares.{is_isqrt}
-use Rattle.roots.proofs.Digits.{Taken, none, one, zero, all, below}
+use Prim.Native.Nat.{◌≤◌, ◌-◌}
+use Rattle.roots.proofs.Digits.{Taken}
 use Rattle.roots.proofs.long_root.Given as goal
 
 abbrev pub invariant-loop-i : goal.invariant-loop-i

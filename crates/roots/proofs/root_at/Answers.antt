@@ -1,5 +1,4 @@
 -- `roots::root_at` meets its contract: the parts fit in 64 bits, and are no NaN's. Assumes nothing.
-use borrow.Author.Rules.{rules}
 use Prim.Native.Nat.{ℕ, ◌+◌, ◌*◌, ◌/◌, ◌%◌, ◌^◌, ◌≤◌}
 use mathlib.Core.Path.{◌≡◌, ap, ◌∙◌}
 use native.Mathlib.Nat.{mod-eq_of_lt}

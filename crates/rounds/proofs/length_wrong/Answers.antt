@@ -1,5 +1,4 @@
 -- `rounds::length_wrong` meets its contract. Assumes nothing.
-use borrow.Author.Rules.{rules}
 use Rattle.rounds.proofs.length_wrong.Goals as goal
 
 pub returns-then-given : goal.returns-then-given

@@ -1,5 +1,4 @@
 -- `rounds::reads_wrong` meets its contract: each return by the tests that led to it. Assumes nothing.
-use borrow.Author.Rules.{rules}
 use Rattle.rounds.proofs.Tests.{reads_weight, reads_damping, reads_tolerance, reads_vector}
 use Rattle.rounds.proofs.reads_wrong.Goals as goal
 

@@ -2,7 +2,6 @@
 use mathlib.Core.Path.{◌≡◌, sym, ap, ◌∙◌}
 use mathlib.Core.Bool.{Bool, false}
 use Prim.Native.Nat.{ℕ}
-use borrow.Author.Rules.{rules}
 use Rattle.graph.specs.declared.Fronts.{Fronts}
 use Rattle.graph.specs.Checks.{work_wrong}
 use Rattle.graph.specs.Refusals.{Tests, first_of, first_refusal}

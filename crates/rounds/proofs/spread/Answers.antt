@@ -1,10 +1,7 @@
 -- `rounds::spread` meets its contract: each return by the tests that led to it. Assumes nothing.
 use native.Mathlib.Omega.{arith}
-use borrow.Author.Rules.{rules}
 use lib.ListN.{length-set}
 use Rattle.rounds.proofs.Vectors.{spread_directed, spread_loop, spread_both}
-use Rattle.rounds.proofs.spread.Reads as reads
-use Rattle.rounds.proofs.spread.Lts as lts
 use Rattle.rounds.proofs.spread.Goals as goal
 
 pub returns-then-directed : goal.returns-then-directed

@@ -1,5 +1,4 @@
 -- `rounds::vector_wrong` meets its contract. Assumes nothing.
-use borrow.Author.Rules.{rules}
 use Rattle.rounds.proofs.vector_wrong.Goals as goal
 
 pub returns-then-given : goal.returns-then-given

@@ -1,5 +1,4 @@
 -- `rounds::write_settled` meets its contract. Assumes nothing.
-use borrow.Author.Rules.{rules}
 use Rattle.rounds.proofs.Ending.{wrote, wrote_not}
 use Rattle.rounds.proofs.write_settled.Goals as goal
 

@@ -1,7 +1,5 @@
 -- `rows::build_rows` meets its contract: what each walk leaves is what the next one needs. Assumes nothing.
-use native.Mathlib.Omega.{arith}
 use Rattle.rows.proofs.Building.{count_pre, sum_pre, place_pre, place_pre_2, built}
-use borrow.Author.Rules.{rules}
 use Rattle.rows.proofs.build_rows.Goals as goal
 
 pub count_entries-requires : goal.count_entries-requires

@@ -2,7 +2,6 @@
 use native.Mathlib.Omega.{arith}
 use lib.ListN.{length-set}
 use Rattle.rows.proofs.Counting.{counted_directed, counted_loop, counted_both, second_end}
-use borrow.Author.Rules.{rules}
 use Rattle.rows.proofs.count_edge.Goals as goal
 
 pub overflow_add-w : goal.overflow_add-w

@@ -1,9 +1,6 @@
 -- `rows::count_entries` meets its contract: after i edges their entries are counted. Assumes nothing.
-use Prim.Native.Nat.{◌-◌}
 use native.Mathlib.Omega.{arith}
-use lib.ListN.{length}
-use Rattle.rows.proofs.Counting.{Counting, none, turn, step, done}
-use borrow.Author.Rules.{rules}
+use Rattle.rows.proofs.Counting.{none, turn, step, done}
 use Rattle.rows.proofs.count_entries.Goals as goal
 
 pub loop-i-init : goal.loop-i-init

@@ -1,9 +1,7 @@
 -- `rows::count_entries` meets its contract: after i edges their entries are counted. Assumes nothing.
 use Prim.Native.Nat.{◌-◌}
-use native.Mathlib.Omega.{arith}
 use lib.ListN.{length}
-use Rattle.rows.proofs.Counting.{Counting, none, turn, step, done}
-use borrow.Author.Rules.{rules}
+use Rattle.rows.proofs.Counting.{Counting}
 use Rattle.rows.proofs.count_entries.Given as goal
 
 abbrev pub invariant-loop-i : goal.invariant-loop-i

@@ -1,11 +1,9 @@
 -- `rows::entry` meets its contract. Assumes nothing.
-use mathlib.Core.Path.{◌≡◌, sym}
-use Prim.Native.Nat.{ℕ, ◌+◌, ◌-◌, ◌<◌, ◌≤◌}
+use mathlib.Core.Path.{sym}
+use Prim.Native.Nat.{◌+◌}
 use native.Mathlib.Omega.{arith}
-use lib.ListN.{length, get_or}
-use Rattle.rows.specs.Rows.{row_at, RowsFit}
-use Rattle.rows.proofs.Reading.{Entry, entry_in}
-use borrow.Author.Rules.{rules}
+use lib.ListN.{get_or}
+use Rattle.rows.proofs.Reading.{entry_in}
 use Rattle.rows.proofs.entry.Goals as goal
 
 pub overflow_add-result : goal.overflow_add-result

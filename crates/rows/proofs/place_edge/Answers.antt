@@ -1,8 +1,6 @@
 -- `rows::place_edge` meets its contract, by the three ways through it. Assumes nothing.
-use mathlib.Core.Path.{◌≡◌, refl, ap, ◌∙◌}
 use borrow.Author.Tests.{eq-eqb, ne_eqb}
 use Rattle.rows.specs.Walks.{placed}
-use borrow.Author.Rules.{rules}
 use Rattle.rows.proofs.place_edge.Goals as goal
 
 pub returns-then-own-other : goal.returns-then-own-other

@@ -1,9 +1,6 @@
 -- `rows::place_entries` meets its contract: after i edges their entries stand at the ends of their rows. Assumes nothing.
-use Prim.Native.Nat.{ℕ, ◌-◌, ◌+◌}
 use native.Mathlib.Omega.{arith}
-use lib.ListN.{length}
-use Rattle.rows.proofs.Placing.{Placing, none, turn, step, done}
-use borrow.Author.Rules.{rules}
+use Rattle.rows.proofs.Placing.{none, turn, step, done}
 use Rattle.rows.proofs.place_entries.Goals as goal
 
 pub loop-i-init : goal.loop-i-init

@@ -1,9 +1,6 @@
 -- `rows::place_entries` meets its contract: after i edges their entries stand at the ends of their rows. Assumes nothing.
-use Prim.Native.Nat.{ℕ, ◌-◌, ◌+◌}
-use native.Mathlib.Omega.{arith}
-use lib.ListN.{length}
-use Rattle.rows.proofs.Placing.{Placing, none, turn, step, done}
-use borrow.Author.Rules.{rules}
+use Prim.Native.Nat.{◌-◌}
+use Rattle.rows.proofs.Placing.{Placing}
 use Rattle.rows.proofs.place_entries.Given as goal
 
 abbrev pub invariant-loop-i : goal.invariant-loop-i

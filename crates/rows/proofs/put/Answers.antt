@@ -1,7 +1,6 @@
 -- `rows::put` meets its contract. Assumes nothing.
 use native.Mathlib.Omega.{arith}
 use lib.ListN.{length-set}
-use borrow.Author.Rules.{rules}
 use Rattle.rows.proofs.put.Goals as goal
 
 pub bounds-w-ent : goal.bounds-w-ent

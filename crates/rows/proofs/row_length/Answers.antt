@@ -1,9 +1,8 @@
 -- `rows::row_length` meets its contract. Assumes nothing.
 use Prim.Native.Nat.{◌+◌}
-use mathlib.Core.Path.{◌≡◌, sym}
+use mathlib.Core.Path.{sym}
 use native.Mathlib.Omega.{arith}
 use Rattle.rows.proofs.Reading.{row_length}
-use borrow.Author.Rules.{rules}
 use Rattle.rows.proofs.row_length.Goals as goal
 
 pub overflow_add-result : goal.overflow_add-result

@@ -1,8 +1,6 @@
 -- `rows::sum_counts` meets its contract: after v counts their sums stand in their places. Assumes nothing.
-use Prim.Native.Nat.{◌-◌}
 use native.Mathlib.Omega.{arith}
-use Rattle.rows.proofs.Summing.{Summing, none, sum_fits, step, end}
-use borrow.Author.Rules.{rules}
+use Rattle.rows.proofs.Summing.{none, sum_fits, step, end}
 use Rattle.rows.proofs.sum_counts.Goals as goal
 
 pub loop-v-init : goal.loop-v-init

@@ -1,8 +1,6 @@
 -- `rows::sum_counts` meets its contract: after v counts their sums stand in their places. Assumes nothing.
 use Prim.Native.Nat.{◌-◌}
-use native.Mathlib.Omega.{arith}
-use Rattle.rows.proofs.Summing.{Summing, none, sum_fits, step, end}
-use borrow.Author.Rules.{rules}
+use Rattle.rows.proofs.Summing.{Summing}
 use Rattle.rows.proofs.sum_counts.Given as goal
 
 abbrev pub invariant-loop-v : goal.invariant-loop-v

@@ -1,13 +1,7 @@
 -- `search::search_on` meets its contract: before each visit the search is as `Run` says. Assumes nothing.
-use mathlib.Core.Bool.{Bool}
-use mathlib.Core.List.{List}
-use Prim.Native.Nat.{ℕ, ◌+◌, ◌-◌}
 use native.Mathlib.Omega.{arith}
-use lib.ListN.{get_or}
-use Rattle.graph.specs.Edges.{Edge}
-use Rattle.hops.specs.Search.{graph_of, Search}
+use Rattle.hops.specs.Search.{graph_of}
 use Rattle.search.proofs.Runs.{Run, run_none, run_visiting, run_kept, run_step, run_paths}
-use borrow.Author.Rules.{rules}
 use Rattle.search.proofs.search_on.Goals as goal
 use Rattle.search.proofs.search_on.Goals.{At-loop-head}
 

@@ -2,12 +2,10 @@
 use mathlib.Core.Bool.{Bool}
 use mathlib.Core.List.{List}
 use Prim.Native.Nat.{ℕ, ◌+◌, ◌-◌}
-use native.Mathlib.Omega.{arith}
 use lib.ListN.{get_or}
 use Rattle.graph.specs.Edges.{Edge}
 use Rattle.hops.specs.Search.{graph_of, Search}
-use Rattle.search.proofs.Runs.{Run, run_none, run_visiting, run_kept, run_step, run_paths}
-use borrow.Author.Rules.{rules}
+use Rattle.search.proofs.Runs.{Run}
 use Rattle.search.proofs.search_on.Given as goal
 
 abbrev pub invariant-loop-head : goal.invariant-loop-head

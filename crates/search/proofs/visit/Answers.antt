@@ -1,14 +1,10 @@
 -- `search::visit` meets its contract: at each entry the search is as `Scan` says. Assumes nothing.
 use mathlib.Core.Path.{sym, ◌∙◌}
-use mathlib.Core.Bool.{Bool}
-use mathlib.Core.List.{List}
-use Prim.Native.Nat.{ℕ, ◌+◌, ◌-◌}
+use Prim.Native.Nat.{◌+◌}
 use native.Mathlib.Omega.{arith}
 use lib.ListN.{get_or}
-use Rattle.graph.specs.Edges.{Edge}
-use Rattle.hops.specs.Search.{graph_of, Search}
+use Rattle.hops.specs.Search.{graph_of}
 use Rattle.hops.proofs.Scans.{Scan, begun, grown_most, scan_none, in_rows, scan_pre, scan_kept, scan_step, scan_paths, place_fits, scan_done}
-use borrow.Author.Rules.{rules}
 use Rattle.search.proofs.visit.Goals as goal
 use Rattle.search.proofs.visit.Goals.{At-loop-p}
 

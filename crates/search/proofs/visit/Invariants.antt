@@ -1,14 +1,10 @@
 -- `search::visit` meets its contract: at each entry the search is as `Scan` says. Assumes nothing.
-use mathlib.Core.Path.{sym, ◌∙◌}
 use mathlib.Core.Bool.{Bool}
 use mathlib.Core.List.{List}
-use Prim.Native.Nat.{ℕ, ◌+◌, ◌-◌}
-use native.Mathlib.Omega.{arith}
-use lib.ListN.{get_or}
+use Prim.Native.Nat.{ℕ, ◌-◌}
 use Rattle.graph.specs.Edges.{Edge}
 use Rattle.hops.specs.Search.{graph_of, Search}
-use Rattle.hops.proofs.Scans.{Scan, begun, grown_most, scan_none, in_rows, scan_pre, scan_kept, scan_step, scan_paths, place_fits, scan_done}
-use borrow.Author.Rules.{rules}
+use Rattle.hops.proofs.Scans.{Scan}
 use Rattle.search.proofs.visit.Given as goal
 
 abbrev pub invariant-loop-p : goal.invariant-loop-p

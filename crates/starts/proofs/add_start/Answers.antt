@@ -1,7 +1,6 @@
 -- `starts::add_start` meets its contract: search, accumulation and taking back, one after the other. Assumes nothing.
 use native.Mathlib.Omega.{arith}
 use Rattle.starts.proofs.Adding.{search_pre, start_paths, start_accumulate, start_forget, start_release, start_done}
-use borrow.Author.Rules.{rules}
 use Rattle.starts.proofs.add_start.Goals as goal
 
 pub overflow_add-distances : goal.overflow_add-distances

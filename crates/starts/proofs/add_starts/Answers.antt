@@ -1,9 +1,7 @@
 -- `starts::add_starts` meets its contract: the starts before this one have been added. Assumes nothing.
-use Prim.Native.Nat.{◌-◌}
 use native.Mathlib.Omega.{arith}
 use Rattle.starts.proofs.Following.{added_none}
-use Rattle.starts.proofs.Adding.{AddedScores, starts_pre, starts_more, starts_paths, starts_done}
-use borrow.Author.Rules.{rules}
+use Rattle.starts.proofs.Adding.{starts_pre, starts_more, starts_paths, starts_done}
 use Rattle.starts.proofs.add_starts.Goals as goal
 
 pub loop-start-init : goal.loop-start-init

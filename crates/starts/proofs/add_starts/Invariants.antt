@@ -1,9 +1,6 @@
 -- `starts::add_starts` meets its contract: the starts before this one have been added. Assumes nothing.
 use Prim.Native.Nat.{◌-◌}
-use native.Mathlib.Omega.{arith}
-use Rattle.starts.proofs.Following.{added_none}
-use Rattle.starts.proofs.Adding.{AddedScores, starts_pre, starts_more, starts_paths, starts_done}
-use borrow.Author.Rules.{rules}
+use Rattle.starts.proofs.Adding.{AddedScores}
 use Rattle.starts.proofs.add_starts.Given as goal
 
 abbrev pub invariant-loop-start : goal.invariant-loop-start

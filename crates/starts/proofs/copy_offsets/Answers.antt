@@ -1,10 +1,9 @@
 -- `starts::copy_offsets` meets its contract: after v turns the offsets of the first v nodes are copied. Assumes nothing.
 use mathlib.Core.Path.{◌≡◌, subst}
-use Prim.Native.Nat.{ℕ, ◌-◌, ◌≤◌}
+use Prim.Native.Nat.{ℕ}
 use native.Mathlib.Omega.{arith}
 use Rattle.regions.specs.Region.{Copied}
 use Rattle.regions.proofs.Frames.{copied_none, copied_more, copied_source}
-use borrow.Author.Rules.{rules}
 use Rattle.starts.proofs.copy_offsets.Goals as goal
 
 pub loop-v-init : goal.loop-v-init

@@ -1,6 +1,5 @@
 -- `starts::index_entries` meets its contract. Assumes nothing.
 use Rattle.starts.proofs.Indexing.{index_pre, indexed}
-use borrow.Author.Rules.{rules}
 use Rattle.starts.proofs.index_entries.Goals as goal
 
 pub build_rows-requires : goal.build_rows-requires

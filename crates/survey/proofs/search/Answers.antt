@@ -1,5 +1,4 @@
 -- `survey::search` meets its contract: the regions are cleared, and the search goes over the rows. Assumes nothing.
-use borrow.Author.Rules.{rules}
 use Rattle.survey.proofs.Searching.{search_pre, surveyed}
 use Rattle.survey.proofs.search.Goals as goal
 

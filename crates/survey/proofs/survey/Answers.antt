@@ -1,6 +1,5 @@
 -- `survey::survey` meets its contract: a refusal by its test, the rest by what the steps leave. Assumes nothing.
 use mathlib.Core.Bool.{true}
-use borrow.Author.Rules.{rules}
 use lib.Dec.{leb}
 use lib.ListN.{length}
 use Rattle.graph.specs.Given.{Given, given}

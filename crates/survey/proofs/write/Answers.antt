@@ -1,7 +1,6 @@
 -- `survey::write` meets its contract: PATHS writes nothing, else both regions are copied out. Assumes nothing.
 use mathlib.Core.Path.{refl}
 use Rattle.survey.proofs.Searching.{written, unwritten}
-use borrow.Author.Rules.{rules}
 use Rattle.survey.proofs.write.Goals as goal
 
 pub returns-in_default : goal.returns-in_default

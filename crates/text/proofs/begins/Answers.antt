@@ -1,11 +1,7 @@
 -- `text::begins` meets its contract. Assumes nothing.
-use mathlib.Core.Path.{◌≡◌, sym, ◌∙◌}
-use Prim.Native.Nat.{◌≤◌, ◌-◌}
+use mathlib.Core.Path.{sym, ◌∙◌}
 use native.Mathlib.Omega.{arith}
-use lib.ListN.{length, drop}
-use Rattle.text.specs.Text.{starts}
 use Rattle.text.proofs.Words.{agree, differ, short, whole}
-use borrow.Author.Rules.{rules}
 use Rattle.text.proofs.begins.Goals as goal
 
 pub returns-then-s-i : goal.returns-then-s-i

@@ -1,11 +1,8 @@
 -- `text::begins` meets its contract. Assumes nothing.
-use mathlib.Core.Path.{◌≡◌, sym, ◌∙◌}
+use mathlib.Core.Path.{◌≡◌}
 use Prim.Native.Nat.{◌≤◌, ◌-◌}
-use native.Mathlib.Omega.{arith}
 use lib.ListN.{length, drop}
 use Rattle.text.specs.Text.{starts}
-use Rattle.text.proofs.Words.{agree, differ, short, whole}
-use borrow.Author.Rules.{rules}
 use Rattle.text.proofs.begins.Given as goal
 
 abbrev pub invariant-loop-i : goal.invariant-loop-i

@@ -1,7 +1,6 @@
 -- `text::bits` meets its contract. Assumes nothing.
 use borrow.Author.Tests.{eq-eqb, ne_eqb}
 use Rattle.text.specs.Text.{bits_of}
-use borrow.Author.Rules.{rules}
 use Rattle.text.proofs.bits.Goals as goal
 
 pub returns-then-s-eq16 : goal.returns-then-s-eq16

@@ -1,6 +1,5 @@
 -- `text::bits_of` meets its contract. Assumes nothing.
 use Rattle.text.proofs.Patterns.{nan_bits_lem, not_nan}
-use borrow.Author.Rules.{rules}
 use Rattle.text.proofs.bits_of.Goals as goal
 
 pub returns-then-x : goal.returns-then-x

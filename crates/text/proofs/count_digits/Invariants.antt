@@ -1,10 +1,7 @@
 -- `text::count_digits` meets its contract. Assumes nothing.
 use mathlib.Core.Path.{◌≡◌}
 use Prim.Native.Nat.{◌≤◌, ◌-◌, ◌+◌}
-use native.Mathlib.Omega.{arith}
 use Rattle.text.specs.Written.{count_in}
-use Rattle.text.proofs.Numerals.{one_digit, no_more, one_more}
-use borrow.Author.Rules.{rules}
 use Rattle.text.proofs.count_digits.Given as goal
 
 abbrev pub invariant-loop-n : goal.invariant-loop-n

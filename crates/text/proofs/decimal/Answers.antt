@@ -1,7 +1,6 @@
 -- `text::decimal` meets its contract. Assumes nothing.
 use mathlib.Core.Path.{sym, ◌∙◌}
 use Rattle.text.proofs.Numbers.{empty, plain, nought, led_by_nought}
-use borrow.Author.Rules.{rules}
 use Rattle.text.proofs.decimal.Goals as goal
 
 pub returns-then-s-eq0 : goal.returns-then-s-eq0

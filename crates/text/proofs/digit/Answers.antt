@@ -2,7 +2,6 @@
 use mathlib.Core.Path.{sym, ◌∙◌}
 use native.Mathlib.Omega.{arith}
 use Rattle.text.proofs.Numbers.{is_decimal, is_letter, below_digits, between_digits, above_digits}
-use borrow.Author.Rules.{rules}
 use Rattle.text.proofs.digit.Goals as goal
 
 pub returns-in-48-to-57 : goal.returns-in-48-to-57

@@ -1,11 +1,8 @@
 -- `text::digits` meets its contract. Assumes nothing.
-use mathlib.Core.Path.{◌≡◌, sym, ap, ◌∙◌}
-use Prim.Native.Nat.{ℕ, ◌≤◌, ◌<◌, ◌-◌, ◌+◌, ◌*◌, ◌^◌}
-use native.Mathlib.Omega.{arith}
-use lib.ListN.{length, get_or, drop}
-use Rattle.text.specs.Text.{digit_of, digits_from}
-use Rattle.text.proofs.Numbers.{too_large, fits_still, more, no_digit, ended, stays_large}
-use borrow.Author.Rules.{rules}
+use mathlib.Core.Path.{◌≡◌}
+use Prim.Native.Nat.{◌≤◌, ◌<◌, ◌-◌, ◌^◌}
+use lib.ListN.{length, drop}
+use Rattle.text.specs.Text.{digits_from}
 use Rattle.text.proofs.digits.Given as goal
 
 abbrev pub invariant-loop-i : goal.invariant-loop-i

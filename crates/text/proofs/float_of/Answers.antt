@@ -2,7 +2,6 @@
 use lib.Ieee.{nan, div, binary64, of_bits, of_fields}
 use mathlib.Core.Path.{◌≡◌, refl, sym, ◌∙◌}
 use Rattle.text.proofs.Patterns.{nan_pattern, number_pattern}
-use borrow.Author.Rules.{rules}
 use Rattle.text.proofs.float_of.Goals as goal
 
 pub returns-then-bits-gt9218868437227405312 : goal.returns-then-bits-gt9218868437227405312

@@ -1,7 +1,6 @@
 -- `text::is_word` meets its contract. Assumes nothing.
 use borrow.Author.Tests.{eq-eqb, ne_eqb}
 use Rattle.text.specs.Text.{is_word}
-use borrow.Author.Rules.{rules}
 use Rattle.text.proofs.is_word.Goals as goal
 
 pub returns-then-s-word : goal.returns-then-s-word

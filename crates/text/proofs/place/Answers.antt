@@ -1,11 +1,6 @@
 -- `text::place` meets its contract. Assumes nothing.
-use mathlib.Core.Path.{◌≡◌}
-use Prim.Native.Nat.{◌≤◌, ◌-◌, ◌+◌}
 use native.Mathlib.Omega.{arith}
-use lib.ListN.{length, drop}
-use Rattle.text.specs.Text.{place_of}
 use Rattle.text.proofs.Words.{here, further, nowhere}
-use borrow.Author.Rules.{rules}
 use Rattle.text.proofs.place.Goals as goal
 
 pub returns-then-s-i : goal.returns-then-s-i

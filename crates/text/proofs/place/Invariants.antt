@@ -1,11 +1,8 @@
 -- `text::place` meets its contract. Assumes nothing.
 use mathlib.Core.Path.{◌≡◌}
 use Prim.Native.Nat.{◌≤◌, ◌-◌, ◌+◌}
-use native.Mathlib.Omega.{arith}
 use lib.ListN.{length, drop}
 use Rattle.text.specs.Text.{place_of}
-use Rattle.text.proofs.Words.{here, further, nowhere}
-use borrow.Author.Rules.{rules}
 use Rattle.text.proofs.place.Given as goal
 
 abbrev pub invariant-loop-i : goal.invariant-loop-i

@@ -1,12 +1,8 @@
 -- `text::put` meets its contract. Assumes nothing.
-use mathlib.Core.Path.{◌≡◌, refl, sym, ◌∙◌}
+use mathlib.Core.Path.{◌≡◌}
 use Prim.Native.Nat.{◌≤◌, ◌-◌, ◌+◌}
-use native.Mathlib.Omega.{arith}
-use native.Mathlib.Nat.{add-zero}
-use lib.ListN.{length, drop, set, length-set}
+use lib.ListN.{length, drop}
 use lib.Seq.{sets}
-use Rattle.text.proofs.Stores.{one_byte, no_byte}
-use borrow.Author.Rules.{rules}
 use Rattle.text.proofs.put.Given as goal
 
 abbrev pub invariant-loop-i : goal.invariant-loop-i

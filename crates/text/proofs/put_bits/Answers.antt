@@ -1,7 +1,6 @@
 -- `text::put_bits` meets its contract. Assumes nothing.
 use native.Mathlib.Omega.{arith}
 use Rattle.text.proofs.Numerals.{digits_long}
-use borrow.Author.Rules.{rules}
 use Rattle.text.proofs.put_bits.Goals as goal
 
 pub returns : goal.returns

@@ -1,9 +1,7 @@
 -- `text::put_decimal` meets its contract. Assumes nothing.
-use Prim.Native.Nat.{◌-◌}
 use native.Mathlib.Omega.{arith}
 use Rattle.text.specs.Written.{count_in}
 use Rattle.text.proofs.Numerals.{digits_long}
-use borrow.Author.Rules.{rules}
 use Rattle.text.proofs.put_decimal.Goals as goal
 
 pub returns : goal.returns

@@ -1,13 +1,10 @@
 -- `text::put_digits` meets its contract. Assumes nothing.
-use mathlib.Core.Path.{◌≡◌, sym, ◌∙◌}
-use Prim.Native.Nat.{◌≤◌, ◌<◌, ◌-◌}
+use mathlib.Core.Path.{sym, ◌∙◌}
+use Prim.Native.Nat.{◌<◌, ◌-◌}
 use native.Mathlib.Omega.{arith}
 use native.Mathlib.Nat.{mod-lt}
-use lib.ListN.{length, set, length-set}
-use lib.Seq.{sets}
-use Rattle.text.specs.Written.{digits_text}
+use lib.ListN.{length-set}
 use Rattle.text.proofs.Numerals.{last_digit, no_digits}
-use borrow.Author.Rules.{rules}
 use Rattle.text.proofs.put_digits.Goals as goal
 
 pub digit_byte-requires : goal.digit_byte-requires

@@ -1,6 +1,6 @@
 -- `voterank::decay_of` meets its contract. Assumes nothing.
-use Rattle.std.proofs.Common.{◌≡◌, ℕ, pos, ap, ◌∙◌, rules}
-use lib.Ieee.{Float, binary64, of_bits, of_int, div}
+use Rattle.std.proofs.Common.{ℕ, pos, ap}
+use lib.Ieee.{binary64, of_bits, of_int}
 use Rattle.voterank.specs.VoteRank.{decay_of}
 use Rattle.voterank.proofs.decay_of.Goals as goal
 

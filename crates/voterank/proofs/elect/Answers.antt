@@ -1,7 +1,7 @@
 -- `voterank::elect` meets its contract: after k elections the slices hold the poll of the rule. Assumes nothing.
-use Rattle.std.proofs.Common.{◌≡◌, ℕ, ◌-◌, ◌*◌, ◌≤◌, [], length, ◌∙◌, arith, rules}
+use Rattle.std.proofs.Common.{◌*◌, ◌≤◌, [], length, ◌∙◌, arith}
 use lib.Ieee.{of_bits}
-use Rattle.voterank.proofs.Polling.{Polling, polling_none, tally_pre, silence_pre, highest_pre, weaken_pre, polling_more, polling_stop, polling_all}
+use Rattle.voterank.proofs.Polling.{polling_none, tally_pre, silence_pre, highest_pre, weaken_pre, polling_more, polling_stop, polling_all}
 use Rattle.voterank.proofs.elect.Goals as goal
 use Rattle.voterank.proofs.elect.Goals.{After-first_highest-v}
 

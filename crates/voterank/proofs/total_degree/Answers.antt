@@ -1,5 +1,4 @@
 -- `voterank::total_degree` meets its contract. Assumes nothing.
-use Rattle.std.proofs.Common.{rules}
 use Rattle.voterank.proofs.total_degree.Goals as goal
 
 pub returns-then-directed : goal.returns-then-directed

@@ -1,6 +1,6 @@
 -- `voterank::voterank` meets its contract: a refusal by its test, the elected by what the steps leave. Assumes nothing.
-use Rattle.std.proofs.Common.{◌≡◌, ℕ, List, rules}
-use lib.Ieee.{Float, of_bits}
+use Rattle.std.proofs.Common.{◌≡◌, ℕ, List}
+use lib.Ieee.{of_bits}
 use Rattle.graph.specs.Given.{Given, given}
 use Rattle.graph.specs.Pres.{Passed}
 use Rattle.graph.proofs.Refusals.{passed}

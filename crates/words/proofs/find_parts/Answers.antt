@@ -1,5 +1,4 @@
 -- `words::find_parts` meets its contract. Assumes nothing.
-use Rattle.std.proofs.Common.{rules}
 use Rattle.words.proofs.find_parts.Goals as goal
 
 pub returns : goal.returns

@@ -1,5 +1,5 @@
 -- `words::front` meets its contract. Assumes nothing.
-use Rattle.std.proofs.Common.{◌≤◌, length, sym, arith, length-take-le, take_all, rules}
+use Rattle.std.proofs.Common.{◌≤◌, length, sym, arith, length-take-le, take_all}
 use Rattle.words.proofs.front.Goals as goal
 
 pub returns-then-words-n : goal.returns-then-words-n

@@ -1,5 +1,4 @@
 -- `words::is_set` meets its contract. Assumes nothing.
-use Rattle.std.proofs.Common.{rules}
 use Rattle.words.proofs.is_set.Goals as goal
 
 pub returns : goal.returns

@@ -1,5 +1,5 @@
 -- `words::results` meets its contract. Assumes nothing.
-use Rattle.std.proofs.Common.{◌≡◌, ◌+◌, ◌-◌, ◌<◌, ◌≤◌, length, arith, rules}
+use Rattle.std.proofs.Common.{◌≡◌, ◌+◌, ◌-◌, ◌<◌, ◌≤◌, length, arith}
 use Rattle.words.specs.Words.{word_at}
 use Rattle.words.proofs.Words.{results_none, results_there}
 use Rattle.words.proofs.results.Goals as goal

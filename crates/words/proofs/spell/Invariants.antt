@@ -1,5 +1,5 @@
 -- `words::spell` is safe and ends: i is at most the length of the line. Assumes nothing.
-use Rattle.std.proofs.Common.{◌≡◌, ◌-◌, ◌≤◌, length, rules}
+use Rattle.std.proofs.Common.{◌≡◌, ◌-◌, ◌≤◌, length}
 use Rattle.words.proofs.spell.Given as goal
 
 abbrev pub invariant-loop-i : goal.invariant-loop-i

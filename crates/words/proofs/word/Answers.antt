@@ -1,6 +1,5 @@
 -- `words::word` meets its contract. Assumes nothing.
 use Rattle.words.proofs.Words.{word_there, word_past}
-use Rattle.std.proofs.Common.{rules}
 use Rattle.words.proofs.word.Goals as goal
 
 pub returns-then-at-words : goal.returns-then-at-words
