@@ -1,10 +1,10 @@
 // What the programs that replay a list share: the numbers in front of a record, and its bytes.
 #![tactic(auto)]
 
-ghost use Rattle.std.specs.Prelude.{◌≡◌};
+ghost use Rattle.std.specs.Prelude.{◌≡◌, ◌≤◌, length};
 ghost use Rattle.records.specs.Records.{number_in, with_digit, part_of, Read};
 
-use libc::STDIN_FILENO;
+use std::io;
 
 // More than any record has; it stands for what is no number.
 pub const FAULT: usize = 99999;
@@ -37,13 +37,31 @@ fn with_digit(n: usize, b: u8) -> usize
 }
 
 // Reads n bytes, if there is room for them and they are there.
-pub fn is_read(n: usize, line: &mut [u8]) -> bool
+pub fn is_read<R: io::Read>(input: &mut R, n: usize, line: &mut [u8]) -> bool
     ensures { Read result n line.old line.new }
 {
     if line.len() < n {
         return false;
     }
-    io::read_full(STDIN_FILENO, &mut line[..n]) == n
+    read_full(input, &mut line[..n]) == n
+}
+
+// Reads until the slice is full, the input ends or a read fails, and says how many bytes stand at its front.
+pub fn read_full<R: io::Read>(input: &mut R, line: &mut [u8]) -> usize
+    ensures in_bounds { result ≤ length line.old }
+    ensures same_length { length line.new ≡ length line.old }
+{
+    let mut n = 0;
+    while n < line.len() {
+        let Ok(more) = input.read(&mut line[n..]) else {
+            return n;
+        };
+        if more == 0 {
+            return n;
+        }
+        n += more;
+    }
+    n
 }
 
 // So many bytes from a place on; the whole line where there are not so many.

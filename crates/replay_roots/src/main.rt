@@ -2,7 +2,7 @@
 // the bits of a double and of its root, 16 hexadecimal digits each. A line that starts with # says how the list was made.
 #![tactic(auto)]
 
-use libc::{STDIN_FILENO, STDOUT_FILENO};
+use std::io;
 
 // The bytes of a line, and where its second number starts.
 const LINE: usize = 34;
@@ -36,23 +36,20 @@ enum Number {
     Faulty,
 }
 
-fn main() {
-    let tally = replay();
-    io::print_decimal(STDOUT_FILENO, tally.roots);
-    io::write_all(STDOUT_FILENO, b" roots, ");
-    io::print_decimal(STDOUT_FILENO, tally.differ);
-    io::write_all(STDOUT_FILENO, b" differ\n");
+fn main(rt: HostRuntime) -> io::Result<()> {
+    let tally = replay(&mut rt.stdin());
+    println!(rt; "{} roots, {} differ", tally.roots, tally.differ)
 }
 
 // Every block of the list. Nothing says that an input ends, so the turns are counted down, from a number that no run uses up.
-fn replay() -> Tally {
+fn replay<R: io::Read>(input: &mut R) -> Tally {
     let mut tally = Tally {
         roots: 0,
         differ: 0,
     };
     let mut turns = u64::MAX;
     while 0 < turns {
-        let Step::Again(after) = block(tally) else {
+        let Step::Again(after) = block(tally, input) else {
             return tally;
         };
         tally = after;
@@ -62,9 +59,9 @@ fn replay() -> Tally {
 }
 
 // The next block, read and counted.
-fn block(tally: Tally) -> Step {
+fn block<R: io::Read>(tally: Tally, input: &mut R) -> Step {
     let mut text = [0u8; BLOCK];
-    let n = io::read_full(STDIN_FILENO, &mut text);
+    let n = records::read_full(input, &mut text);
     if n == 0 {
         return Step::Ended;
     }

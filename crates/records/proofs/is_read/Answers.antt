@@ -1,23 +1,20 @@
 -- `records::is_read` meets its contract. Assumes nothing.
-use mathlib.Core.Path.{sym}
-use lib.Dec.{eqb}
-use lib.Seq.{length-take-le}
+use Rattle.std.proofs.Common.{◌≡◌, ◌++◌, nat_eq, length, drop, arith, length-append, length-drop, length-take-le}
 use Rattle.records.proofs.Records.{room, no_room, rest_kept}
-use borrow.Author.Rules.{rules}
 use Rattle.records.proofs.is_read.Goals as goal
 
 pub returns-then-line-n : goal.returns-then-line-n
-returns-then-line-n c = record { room = tt; rest = no_room _ _ c.if-line-n.true }
-
-pub slice_bounds-read_full-end-2 : goal.slice_bounds-read_full-end-2
-slice_bounds-read_full-end-2 c = sym (length-take-le _ _ c.if-line-n.false)
+returns-then-line-n g c = record { room = tt; rest = no_room _ _ c.if-line-n.true }
 
 pub returns : goal.returns
-returns c =
+returns g c =
     let s = c.args in
     let fits = c.if-line-n.false in
-    let got = c.read_full in
+    let bytes = c.read_full.new.line in
+    let same : length (bytes ++ drop s.n s.line.now) ≡ length s.line.now =
+    omega (arith, length-append bytes (drop s.n s.line.now), length-drop s.n s.line.now, c.read_full.ensures.same_length, length-take-le s.n s.line.now fits)
+    in
     record {
-      room = room (eqb got.result s.n) s.n s.line.now fits;
-      rest = rest_kept s.n s.line.now got.new.1.0 fits (same_length c);
+      room = room (nat_eq c.read_full.result s.n) s.n s.line.now fits;
+      rest = rest_kept s.n s.line.now bytes fits same;
     }

@@ -1,12 +1,9 @@
 -- `records::number` meets its contract: the digits that are left, after those read, give the number. Assumes nothing.
-use mathlib.Core.Path.{◌≡◌, sym, ◌∙◌}
+use mathlib.Core.Path.{◌≡◌}
 use mathlib.Core.List.{foldl}
 use Prim.Native.Nat.{◌≤◌, ◌-◌}
-use native.Mathlib.Omega.{arith}
 use lib.ListN.{length, drop}
 use Rattle.records.specs.Records.{with_digit, number_in}
-use Rattle.records.proofs.Records.{next_digit, all_digits}
-use borrow.Author.Rules.{rules}
 use Rattle.records.proofs.number.Given as goal
 
 abbrev pub invariant-loop-i : goal.invariant-loop-i

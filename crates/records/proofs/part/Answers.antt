@@ -4,7 +4,6 @@ use Prim.Native.Nat.{◌+◌, ◌-◌, ◌≤◌, ◌<◌}
 use native.Mathlib.Omega.{arith}
 use lib.ListN.{length}
 use Rattle.records.proofs.Records.{whole_line, part_there}
-use borrow.Author.Rules.{rules}
 use Rattle.records.proofs.part.Goals as goal
 
 pub returns-then-line-at : goal.returns-then-line-at

@@ -1,6 +1,5 @@
 -- `records::with_digit` meets its contract. Assumes nothing.
 use Rattle.records.proofs.Records.{no_digit, too_long, one_more}
-use borrow.Author.Rules.{rules}
 use Rattle.records.proofs.with_digit.Goals as goal
 
 pub returns-then-d-gt9 : goal.returns-then-d-gt9
