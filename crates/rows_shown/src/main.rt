@@ -5,7 +5,7 @@
 ghost use Rattle.std.specs.Prelude.{◌≡◌, ◌<◌};
 ghost use Rattle.rows.specs.Rows.{RowsFit};
 
-use libc::STDOUT_FILENO;
+use std::io;
 
 const NODES: usize = 4;
 
@@ -14,62 +14,67 @@ const EDGES: usize = 6;
 
 const FRONT: usize = 17;
 
-fn main() {
+fn main(rt: HostRuntime) -> io::Result<()> {
     // 0-1, 0-1 again, 1-1, 2-1, 1-0, 3-3
     let from = [0u32, 0, 1, 2, 1, 3];
     let to = [1u32, 1, 1, 1, 0, 3];
     let weight = [1.0; 6];
-    io::write_all(STDOUT_FILENO, b"directed\n");
-    show(true, &from, &to, &weight);
-    io::write_all(STDOUT_FILENO, b"undirected\n");
-    show(false, &from, &to, &weight);
+    println!(rt; "directed")?;
+    show(&rt, true, &from, &to, &weight)?;
+    println!(rt; "undirected")?;
+    show(&rt, false, &from, &to, &weight)?;
     // no edges
-    io::write_all(STDOUT_FILENO, b"no edges\n");
-    show(false, &from[..0], &to[..0], &weight[..0]);
+    println!(rt; "no edges")?;
+    show(&rt, false, &from[..0], &to[..0], &weight[..0])?;
     // an end that is no node
     let astray = [0u32, 0, 1, 2, 4, 3];
-    io::write_all(STDOUT_FILENO, b"astray\n");
-    show(true, &from, &astray, &weight);
+    println!(rt; "astray")?;
+    show(&rt, true, &from, &astray, &weight)
 }
 
 // Builds the rows of a graph with four nodes, and prints them.
-fn show(directed: bool, from: &[u32], to: &[u32], weight: &[f64]) {
+fn show(
+    rt: &impl Print,
+    directed: bool,
+    from: &[u32],
+    to: &[u32],
+    weight: &[f64],
+) -> io::Result<()> {
     if EDGES < from.len() {
-        return;
+        return Ok(());
     }
     let answer = graph::graph_refusal(NODES, from, to, weight, false, false);
     if answers::refuses(answer) {
-        io::write_all(STDOUT_FILENO, b"refused\n");
-        return;
+        return println!(rt; "refused");
     }
     let mut w = [0u32; FRONT];
     rows::build_rows(NODES, directed, from, to, weight, &mut w);
-    print_rows(&w);
+    print_rows(rt, &w)
 }
 
-fn print_rows(w: &[u32])
+fn print_rows(rt: &impl Print, w: &[u32]) -> io::Result<()>
     requires { RowsFit 4 w.now }
 {
     let mut v = 0;
     while v < NODES {
-        print_row(w, v);
+        print_row(rt, w, v)?;
         v += 1;
     }
+    Ok(())
 }
 
 // A node and its entries on a line.
-fn print_row(w: &[u32], v: usize)
+fn print_row(rt: &impl Print, w: &[u32], v: usize) -> io::Result<()>
     requires rows_fit { RowsFit 4 w.now }
     requires v_bound { v < 4 }
 {
-    io::print_decimal(STDOUT_FILENO, v as u64);
-    io::write_all(STDOUT_FILENO, b":");
+    print!(rt; "{v}:")?;
     let entries = rows::row_length(NODES, w, v);
     let mut k = 0;
     while k < entries {
-        io::write_all(STDOUT_FILENO, b" ");
-        io::print_decimal(STDOUT_FILENO, rows::entry(NODES, w, v, k) as u64);
+        let other = rows::entry(NODES, w, v, k);
+        print!(rt; " {other}")?;
         k += 1;
     }
-    io::write_all(STDOUT_FILENO, b"\n");
+    println!(rt)
 }
