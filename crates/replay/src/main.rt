@@ -3,8 +3,8 @@
 #![tactic(auto)]
 
 use job::OUTPUT;
-use libc::{STDIN_FILENO, STDOUT_FILENO};
 use ran::Ran;
+use std::io;
 
 // The lengths in front of a record: five digits, a space, five digits, a newline.
 const FRAME: usize = 12;
@@ -27,60 +27,63 @@ enum Step {
     Ended,
 }
 
-fn main() {
-    let tally = replay();
-    print(b"jobs ");
-    io::print_decimal(STDOUT_FILENO, tally.jobs);
-    print(b" records, ");
-    io::print_decimal(STDOUT_FILENO, tally.differ);
-    print(b" differ\n");
+fn main(rt: HostRuntime) -> io::Result<()> {
+    let tally = replay(&rt, &mut rt.stdin())?;
+    print(&rt, b"jobs ")?;
+    println!(rt; "{} records, {} differ", tally.jobs, tally.differ)
 }
 
-fn print(word: &[u8]) {
-    io::write_all(STDOUT_FILENO, word);
+fn print(rt: &impl Print, word: &[u8]) -> io::Result<()> {
+    rt.write_all(word)
 }
 
 // Every record of the list. Nothing says that an input ends, so the turns are counted down, from a number that no run uses up.
-fn replay() -> Tally {
+fn replay<R: io::Read>(rt: &impl Print, input: &mut R) -> io::Result<Tally> {
     let mut tally = Tally { jobs: 0, differ: 0 };
     let mut turns = u64::MAX;
     while 0 < turns {
-        let Step::Again(after) = tally.next() else {
-            return tally;
+        let Step::Again(after) = tally.next(rt, input)? else {
+            return Ok(tally);
         };
         tally = after;
         turns -= 1;
     }
-    tally
+    Ok(tally)
 }
 
 impl Tally {
     // The next record, read and counted.
-    fn next(self) -> Step {
+    fn next<R: io::Read>(self, rt: &impl Print, input: &mut R) -> io::Result<Step> {
         let mut frame = [0u8; FRAME];
-        let got = io::read_full(STDIN_FILENO, &mut frame);
+        let got = records::read_full(input, &mut frame);
         if got == 0 {
-            return Step::Ended;
+            return Ok(Step::Ended);
         }
         let asked = records::number(records::part(&frame, 0, 5));
         let told = records::number(records::part(&frame, 6, 5));
-        self.with_record(asked, told)
+        self.with_record(rt, input, asked, told)
     }
 
     // A text of so many bytes and an answer of so many.
-    fn with_record(self, asked: usize, told: usize) -> Step {
+    fn with_record<R: io::Read>(
+        self,
+        rt: &impl Print,
+        input: &mut R,
+        asked: usize,
+        told: usize,
+    ) -> io::Result<Step> {
         let mut text = [0u8; TEXT];
         let mut answer = [0u8; ANSWER];
-        if records::is_read(asked, &mut text) {
-            if records::is_read(told, &mut answer) {
-                return Step::Again(self.with(
+        if records::is_read(input, asked, &mut text) {
+            if records::is_read(input, told, &mut answer) {
+                return Ok(Step::Again(self.with(
                     records::part(&text, 0, asked),
                     records::part(&answer, 0, told),
-                ));
+                )));
             }
         }
-        print(b"a record that is none\n");
-        Step::Ended
+        print(rt, b"a record that is none\n")?;
+        Ok(Step::Ended)
     }
 
     // A comment has no answer.

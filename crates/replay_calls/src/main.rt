@@ -5,7 +5,7 @@
 
 mod lend;
 
-use libc::{STDIN_FILENO, STDOUT_FILENO};
+use std::io;
 use words::WORDS;
 
 // The calls, by their numbers in the list.
@@ -16,43 +16,54 @@ const TEXT: usize = 4096;
 
 const FRAME: usize = 6;
 
-fn main() {
+fn main(rt: HostRuntime) -> io::Result<()> {
     let mut seen = [0u64; CALLS];
     let mut differ = [0u64; CALLS];
-    replay(&mut seen, &mut differ);
-    print_all(&seen, &differ);
+    replay(&rt, &mut rt.stdin(), &mut seen, &mut differ)?;
+    print_all(&rt, &seen, &differ)
 }
 
 // Every record of the list. Nothing says that an input ends, so the turns are counted down, from a number that no run uses up.
-fn replay(seen: &mut [u64; CALLS], differ: &mut [u64; CALLS]) {
+fn replay<R: io::Read>(
+    rt: &impl Print,
+    input: &mut R,
+    seen: &mut [u64; CALLS],
+    differ: &mut [u64; CALLS],
+) -> io::Result<()> {
     let mut turns = u64::MAX;
     while 0 < turns {
-        if ends(seen, differ) {
-            return;
+        if ends(rt, input, seen, differ)? {
+            return Ok(());
         }
         turns -= 1;
     }
+    Ok(())
 }
 
 // The next record, replayed and counted; true where the list ends.
-fn ends(seen: &mut [u64; CALLS], differ: &mut [u64; CALLS]) -> bool {
+fn ends<R: io::Read>(
+    rt: &impl Print,
+    input: &mut R,
+    seen: &mut [u64; CALLS],
+    differ: &mut [u64; CALLS],
+) -> io::Result<bool> {
     let mut line = [0u8; TEXT];
-    let n = read_length();
+    let n = read_length(input);
     if n == 0 {
-        return true;
+        return Ok(true);
     }
-    if records::is_read(n, &mut line) {
-        count(records::part(&line, 0, n), seen, differ);
-        return false;
+    if records::is_read(input, n, &mut line) {
+        count(rt, records::part(&line, 0, n), seen, differ)?;
+        return Ok(false);
     }
-    print(b"a record that is none\n");
-    true
+    print(rt, b"a record that is none\n")?;
+    Ok(true)
 }
 
 // The length of the next record: 0 where the list ends, FAULT for what is none.
-fn read_length() -> usize {
+fn read_length<R: io::Read>(input: &mut R) -> usize {
     let mut frame = [0u8; FRAME];
-    let n = io::read_full(STDIN_FILENO, &mut frame);
+    let n = records::read_full(input, &mut frame);
     if n == 0 {
         return 0;
     }
@@ -63,22 +74,27 @@ fn read_length() -> usize {
 }
 
 // A record replayed, unless it is a comment, and counted.
-fn count(line: &[u8], seen: &mut [u64; CALLS], differ: &mut [u64; CALLS]) {
+fn count(
+    rt: &impl Print,
+    line: &[u8],
+    seen: &mut [u64; CALLS],
+    differ: &mut [u64; CALLS],
+) -> io::Result<()> {
     if text::begins(b"#", line) {
-        return;
+        return Ok(());
     }
     let mut room = [0u64; WORDS];
     let n = words::spell(line, &mut room);
     let words = words::front(&room, n);
     let call = words::size(words, 0, 0);
     if CALLS <= call {
-        print(b"a call that is none\n");
-        return;
+        return print(rt, b"a call that is none\n");
     }
     add_one(call, seen);
     if lend::differs(words) {
         add_one(call, differ);
     }
+    Ok(())
 }
 
 // One more of a call.
@@ -89,55 +105,51 @@ fn add_one(call: usize, counts: &mut [u64; CALLS]) {
 }
 
 // A line for each call, and one for all.
-fn print_all(seen: &[u64; CALLS], differ: &[u64; CALLS]) {
+fn print_all(rt: &impl Print, seen: &[u64; CALLS], differ: &[u64; CALLS]) -> io::Result<()> {
     let mut all = 0;
     let mut wrong = 0;
     let mut call = 0;
     while call < CALLS {
-        print_name(call);
-        print_counts(seen[call], differ[call]);
+        print_name(rt, call)?;
+        print_counts(rt, seen[call], differ[call])?;
         all = std::num::wrapping_add_u64(all, seen[call]);
         wrong = std::num::wrapping_add_u64(wrong, differ[call]);
         call += 1;
     }
-    print(b"all");
-    print_counts(all, wrong);
+    print(rt, b"all")?;
+    print_counts(rt, all, wrong)
 }
 
-fn print_name(call: usize) {
+fn print_name(rt: &impl Print, call: usize) -> io::Result<()> {
     match call {
-        0 => print(b"degree"),
-        1 => print(b"in_degree"),
-        2 => print(b"out_degree"),
-        3 => print(b"survey"),
-        4 => print(b"betweenness"),
-        5 => print(b"edge_betweenness"),
-        6 => print(b"local_reaching"),
-        _ => print_later_name(call),
+        0 => print(rt, b"degree"),
+        1 => print(rt, b"in_degree"),
+        2 => print(rt, b"out_degree"),
+        3 => print(rt, b"survey"),
+        4 => print(rt, b"betweenness"),
+        5 => print(rt, b"edge_betweenness"),
+        6 => print(rt, b"local_reaching"),
+        _ => print_later_name(rt, call),
     }
 }
 
-fn print_later_name(call: usize) {
+fn print_later_name(rt: &impl Print, call: usize) -> io::Result<()> {
     match call {
-        7 => print(b"global_reaching"),
-        8 => print(b"voterank"),
-        9 => print(b"laplacian"),
-        10 => print(b"pagerank"),
-        11 => print(b"personalized_pagerank"),
-        12 => print(b"eigenvector"),
-        _ => print(b"katz"),
+        7 => print(rt, b"global_reaching"),
+        8 => print(rt, b"voterank"),
+        9 => print(rt, b"laplacian"),
+        10 => print(rt, b"pagerank"),
+        11 => print(rt, b"personalized_pagerank"),
+        12 => print(rt, b"eigenvector"),
+        _ => print(rt, b"katz"),
     }
 }
 
-fn print(word: &[u8]) {
-    io::write_all(STDOUT_FILENO, word);
+fn print(rt: &impl Print, word: &[u8]) -> io::Result<()> {
+    rt.write_all(word)
 }
 
 // The end of a line of counts.
-fn print_counts(records: u64, differ: u64) {
-    print(b" ");
-    io::print_decimal(STDOUT_FILENO, records);
-    print(b" records, ");
-    io::print_decimal(STDOUT_FILENO, differ);
-    print(b" differ\n");
+fn print_counts(rt: &impl Print, records: u64, differ: u64) -> io::Result<()> {
+    println!(rt; " {records} records, {differ} differ")
 }

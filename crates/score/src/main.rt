@@ -8,8 +8,8 @@ ghost use Rattle.std.specs.Prelude.{◌≤◌, length};
 ghost use Rattle.score.specs.Got.{Within};
 
 use job::{INPUT, OUTPUT};
-use libc::{STDERR_FILENO, STDIN_FILENO, STDOUT_FILENO};
 use ran::Ran;
+use std::io;
 
 // How many bytes standard input gave.
 #[derive(Clone, Copy)]
@@ -18,27 +18,25 @@ enum Got {
     Failed,
 }
 
-fn main() {
+fn main(rt: HostRuntime) {
     let mut input = [0u8; INPUT + 1];
-    match read_input(&mut input) {
-        Got::Bytes(n) => answer(&input[..n]),
+    match read_input(&mut rt.stdin(), &mut input) {
+        Got::Bytes(n) => answer(&rt, &input[..n]),
         Got::Failed => {
-            io::write_all(STDERR_FILENO, b"score: standard input cannot be read\n");
+            let _ = eprintln!(rt; "score: standard input cannot be read");
         }
     }
 }
 
 // Reads to the end of standard input, or until the slice is full.
-fn read_input(input: &mut [u8]) -> Got
+fn read_input<R: io::Read>(stdin: &mut R, input: &mut [u8]) -> Got
     ensures { Within (length input.old) result }
 {
     let mut n = 0;
     while n < input.len() {
-        let got = libc::read(STDIN_FILENO, &mut input[n..]);
-        if got < 0 {
+        let Ok(more) = stdin.read(&mut input[n..]) else {
             return Got::Failed;
-        }
-        let more = io::count(got, &input[n..]);
+        };
         if more == 0 {
             return Got::Bytes(n);
         }
@@ -48,14 +46,14 @@ fn read_input(input: &mut [u8]) -> Got
 }
 
 // Writes the answer of a job text.
-fn answer(input: &[u8]) {
+fn answer<P: Print + Eprint>(rt: &P, input: &[u8]) {
     let mut output = [0u8; OUTPUT];
     match job::run(input, &mut output) {
         Ran::Written(n) => {
-            if io::write_all(STDOUT_FILENO, &output[..n]) {
+            if rt.write_all(&output[..n]).is_ok() {
                 return;
             }
-            io::write_all(STDERR_FILENO, b"score: the answer cannot be written\n");
+            let _ = eprintln!(rt; "score: the answer cannot be written");
         }
         Ran::Refused(_) => {}
     }

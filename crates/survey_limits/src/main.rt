@@ -4,7 +4,7 @@
 
 ghost use Rattle.std.specs.Prelude.{◌≤◌, ◌<◌, length};
 
-use libc::STDOUT_FILENO;
+use std::io;
 
 const NODES: usize = 4097;
 
@@ -20,21 +20,21 @@ const FLOATS: usize = 40966;
 // The steps whose doubling gives 2^53 paths.
 const STEPS: usize = 53;
 
-fn main() {
+fn main(rt: HostRuntime) -> io::Result<()> {
     let mut from = [0u32; EDGES];
     let mut to = [0u32; EDGES];
     let weight = [1.0; EDGES];
     doubled(&mut from, &mut to);
-    io::write_all(STDOUT_FILENO, b"53 doubled steps:");
-    show(54, 106, STEPS, &from, &to, &weight);
+    print!(rt; "53 doubled steps:")?;
+    show(&rt, 54, 106, STEPS, &from, &to, &weight)?;
     bypass(&mut from, &mut to);
-    io::write_all(STDOUT_FILENO, b"and a single path of 53 hops:");
-    show(106, 159, STEPS, &from, &to, &weight);
+    print!(rt; "and a single path of 53 hops:")?;
+    show(&rt, 106, 159, STEPS, &from, &to, &weight)?;
     chain(&mut from, &mut to);
-    io::write_all(STDOUT_FILENO, b"4096 nodes:");
-    show(4096, 4095, 4095, &from, &to, &weight);
-    io::write_all(STDOUT_FILENO, b"4097 nodes:");
-    show(4097, 4096, 4096, &from, &to, &weight);
+    print!(rt; "4096 nodes:")?;
+    show(&rt, 4096, 4095, 4095, &from, &to, &weight)?;
+    print!(rt; "4097 nodes:")?;
+    show(&rt, 4097, 4096, 4096, &from, &to, &weight)
 }
 
 // Edges 0 to 105: two from each of the nodes 0 to 52 to the next one.
@@ -80,7 +80,15 @@ fn chain(from: &mut [u32], to: &mut [u32])
 }
 
 // The survey from node 0 of the directed graph of the first edges, and what it gives the node `end`.
-fn show(nodes: usize, edges: usize, end: usize, from: &[u32], to: &[u32], weight: &[f64])
+fn show(
+    rt: &impl Print,
+    nodes: usize,
+    edges: usize,
+    end: usize,
+    from: &[u32],
+    to: &[u32],
+    weight: &[f64],
+) -> io::Result<()>
     requires edges_in_bounds { edges ≤ length from.now }
     requires edges_in_bounds_2 { edges ≤ length to.now }
     requires edges_in_bounds_3 { edges ≤ length weight.now }
@@ -104,18 +112,14 @@ fn show(nodes: usize, edges: usize, end: usize, from: &[u32], to: &[u32], weight
         &mut w64,
         &mut wf,
     );
-    print(answers::plain_number(said), distances[end], counts[end]);
+    print(rt, answers::plain_number(said), distances[end], counts[end])
 }
 
 // The answer and, if it is DONE, the distance and the count.
-fn print(answer: u32, distance: u32, count: u64) {
-    io::write_all(STDOUT_FILENO, b" ");
-    io::print_decimal(STDOUT_FILENO, answer as u64);
+fn print(rt: &impl Print, answer: u32, distance: u32, count: u64) -> io::Result<()> {
+    print!(rt; " {answer}")?;
     if answer == 0 {
-        io::write_all(STDOUT_FILENO, b", distance ");
-        io::print_decimal(STDOUT_FILENO, distance as u64);
-        io::write_all(STDOUT_FILENO, b", count ");
-        io::print_decimal(STDOUT_FILENO, count);
+        print!(rt; ", distance {distance}, count {count}")?;
     }
-    io::write_all(STDOUT_FILENO, b"\n");
+    println!(rt)
 }
