@@ -1,5 +1,5 @@
 -- `replay_calls::lend::fits` meets its contract. Assumes nothing.
-use Rattle.std.proofs.Common.{not, sym, ap, ◌∙◌, rules}
+use Rattle.std.proofs.Common.{not, sym, ap, ◌∙◌}
 use Rattle.replay_calls.proofs.Record.{other_end, long_edges, long_vector, rest}
 use Rattle.replay_calls.proofs.lend.fits.Goals as goal
 

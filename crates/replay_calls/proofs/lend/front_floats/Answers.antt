@@ -1,5 +1,5 @@
 -- `replay_calls::lend::front_floats` meets its contract. Assumes nothing.
-use Rattle.std.proofs.Common.{◌≤◌, length, sym, arith, length-take-le, take_all, rules}
+use Rattle.std.proofs.Common.{◌≤◌, length, sym, arith, length-take-le, take_all}
 use Rattle.replay_calls.proofs.lend.front_floats.Goals as goal
 
 pub returns-then-slots-n : goal.returns-then-slots-n

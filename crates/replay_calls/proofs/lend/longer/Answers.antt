@@ -1,6 +1,5 @@
 -- `replay_calls::lend::longer` meets its contract: the limits that are left decide it. Assumes nothing.
-use Rattle.std.proofs.Common.{◌≡◌, ◌-◌, ◌≤◌, length, drop, sym, ◌∙◌, arith, rules}
-use Rattle.replay_calls.specs.Record.{longer_from, is_longer}
+use Rattle.std.proofs.Common.{sym, ◌∙◌, arith}
 use Rattle.replay_calls.proofs.Record.{more, no_more, no_limit}
 use Rattle.replay_calls.proofs.lend.longer.Goals as goal
 

@@ -1,7 +1,6 @@
 -- `replay_calls::lend::longer` meets its contract: the limits that are left decide it. Assumes nothing.
-use Rattle.std.proofs.Common.{◌≡◌, ◌-◌, ◌≤◌, length, drop, sym, ◌∙◌, arith, rules}
+use Rattle.std.proofs.Common.{◌≡◌, ◌-◌, ◌≤◌, length, drop}
 use Rattle.replay_calls.specs.Record.{longer_from, is_longer}
-use Rattle.replay_calls.proofs.Record.{more, no_more, no_limit}
 use Rattle.replay_calls.proofs.lend.longer.Given as goal
 
 abbrev pub invariant-loop-i : goal.invariant-loop-i

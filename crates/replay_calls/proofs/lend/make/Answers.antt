@@ -1,6 +1,5 @@
 -- `replay_calls::lend::make` meets its contract. Assumes nothing.
 use Rattle.replay_calls.proofs.Record.{by_rounds, by_paths, by_walk}
-use Rattle.std.proofs.Common.{rules}
 use Rattle.replay_calls.proofs.lend.make.Goals as goal
 
 pub returns-then-has_rounds : goal.returns-then-has_rounds

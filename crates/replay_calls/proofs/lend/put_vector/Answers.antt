@@ -1,5 +1,5 @@
 -- `replay_calls::lend::put_vector` is safe and ends: i is at most the length, which stays. Assumes nothing.
-use Rattle.std.proofs.Common.{◌≡◌, ◌-◌, ◌≤◌, length, arith, length-set, rules}
+use Rattle.std.proofs.Common.{arith, length-set}
 use Rattle.replay_calls.proofs.lend.put_vector.Goals as goal
 
 pub loop-i-preserved : goal.loop-i-preserved

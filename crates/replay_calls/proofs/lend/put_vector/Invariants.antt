@@ -1,5 +1,5 @@
 -- `replay_calls::lend::put_vector` is safe and ends: i is at most the length, which stays. Assumes nothing.
-use Rattle.std.proofs.Common.{◌≡◌, ◌-◌, ◌≤◌, length, arith, length-set, rules}
+use Rattle.std.proofs.Common.{◌≡◌, ◌-◌, ◌≤◌, length}
 use Rattle.replay_calls.proofs.lend.put_vector.Given as goal
 
 abbrev pub invariant-loop-i : goal.invariant-loop-i

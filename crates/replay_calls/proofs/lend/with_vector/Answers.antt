@@ -1,5 +1,5 @@
 -- `replay_calls::lend::with_vector` meets its contract. Assumes nothing.
-use Rattle.std.proofs.Common.{refl, rules}
+use Rattle.std.proofs.Common.{refl}
 use Rattle.replay_calls.proofs.Record.{moved, front_length}
 use Rattle.replay_calls.proofs.lend.with_vector.Goals as goal
 
