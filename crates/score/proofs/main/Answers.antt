@@ -1,12 +1,10 @@
 -- `score::main` meets its contract. Assumes nothing.
-use mathlib.Core.Path.{◌≡◌, refl, sym, ap, subst, ◌∙◌}
+use mathlib.Core.Path.{◌≡◌, subst}
 use Prim.Native.Nat.{ℕ, ◌≤◌}
 use native.Mathlib.Omega.{arith}
-use lib.Seq.{length-take-le}
 use Rattle.score.specs.declared.Got.{Got}
 use Rattle.score.specs.declared.Got.TheVariants.{Bytes}
 use Rattle.score.specs.Got.{Within}
-use borrow.Author.Rules.{rules}
 use Rattle.score.proofs.main.Goals as goal
 
 bytes-within : {room n : ℕ} {r : Got} → r ≡ Bytes n → Within room r → n ≤ room
@@ -16,6 +14,3 @@ pub slice_bounds-input-end : goal.slice_bounds-input-end
 slice_bounds-input-end c =
     let within = bytes-within c.in-Bytes.is c.read_input.ensures in
     omega (arith, within, c.read_input.auto)
-
-pub slice_bounds-answer-end : goal.slice_bounds-answer-end
-slice_bounds-answer-end c = sym (length-take-le _ _ (array-share-prefix-input c))
