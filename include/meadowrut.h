@@ -1,7 +1,7 @@
 /* Meadowrut: proved graph scores over lent slices.
  *
- * Link the archive that `rt staticlib meadowrut` writes (x86-64 Linux). Nothing is allocated, nothing is kept between
- * calls, and every call ends.
+ * Link target/staticlib/libmeadowrut.a, which tests/library builds (x86-64 Linux). Nothing is allocated, nothing is kept
+ * between calls, and every call ends.
  *
  * What the proof assumes at this boundary, and the caller ensures:
  *   - a slice is a pointer followed by its length in elements; the pointer is aligned for its element and is not null
