@@ -3,7 +3,7 @@ use Rattle.std.specs.Prelude.{Bool, true, false, cond, not, ◌&&◌, ◌||◌, 
 use Rattle.regions.specs.Region.{over}
 use Rattle.answers.specs.declared.Answer.TheVariants.{Paths}
 use Rattle.answers.specs.Answers.{Said, done}
-use Rattle.graph.specs.Edges.{Edge, Graph}
+use Rattle.graph.specs.Edges.{Graph}
 use Rattle.graph.specs.Given.{Given, graph_in}
 use Rattle.graph.specs.Refusals.{plainly}
 use Rattle.graph.specs.Left.{Left, wiped, unless_refused, late_refusal}

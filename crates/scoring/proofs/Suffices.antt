@@ -1,5 +1,4 @@
 -- The text of a measure fits into 32,768 bytes. Assumes nothing.
-use mathlib.Core.Path.{◌≡◌}
 use Prim.Native.Nat.{◌≤◌}
 use native.Mathlib.Omega.{arith}
 use lib.ListN.{length}

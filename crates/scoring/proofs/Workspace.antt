@@ -37,7 +37,7 @@ use Rattle.lines.specs.declared.Top.{Top}
 use Rattle.reply.specs.declared.Settled.TheVariants.{Neither}
 use Rattle.reply.specs.Reply.{answer_text, election_text}
 use Rattle.outcomes.specs.Lent.{Lent, lent, given_scores, given_elected, given_places}
-use Rattle.outcomes.specs.Texts.{said_text, settled_is, settings_of, plain_of, ended_of, elected_of}
+use Rattle.outcomes.specs.Texts.{said_text, settled_is, settings_of, plain_of, ended_of}
 use Rattle.degree.specs.Degree.{end_score, end_scores, ends_outcome}
 use Rattle.betweenness.specs.Betweenness.{betweenness_scores, betweenness_outcome}
 use Rattle.reaching.specs.Reaching.{reach_score, reaching_outcome}

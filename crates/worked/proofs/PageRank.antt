@@ -4,7 +4,7 @@ use mathlib.Core.Bool.{true, false}
 use mathlib.Core.List.{List, [], ◌∷◌, ◌++◌}
 use Prim.Native.Nat.{ℕ}
 use lib.ListN.{replicate}
-use lib.Ieee.{Float, binary64, of_bits, of_int, round, add, sub, mul, div, neg, lt, eq, nan}
+use lib.Ieee.{Float, binary64, of_bits, of_int, add, sub, mul, div, neg, lt, eq, nan}
 use Rattle.regions.specs.Region.{over, list_of, cleared, zero_f}
 use Rattle.answers.specs.declared.Settings.{Settings}
 use Rattle.answers.specs.Answers.{done, refused_with}

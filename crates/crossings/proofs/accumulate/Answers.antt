@@ -1,5 +1,5 @@
 -- `crossings::accumulate` meets its contract: the nodes from place i of the queue have left. Assumes nothing.
-use Rattle.std.proofs.Common.{◌≡◌, ℕ, ◌+◌, ◌-◌, ◌≤◌, length, drop, refl, ap, ◌∙◌, arith, rules}
+use Rattle.std.proofs.Common.{◌≡◌, ℕ, ◌+◌, ◌-◌, drop, refl, ap, ◌∙◌, arith, rules}
 use mathlib.Core.List.{foldr}
 use Rattle.regions.specs.Region.{part}
 use Rattle.brandes.specs.Steps.{held_predecessors}

@@ -1,9 +1,8 @@
 -- `crossings::accumulate` meets its contract: the nodes from place i of the queue have left. Assumes nothing.
-use Rattle.std.proofs.Common.{◌≡◌, ℕ, ◌+◌, ◌-◌, ◌≤◌, length, drop, refl, ap, ◌∙◌, arith, rules}
+use Rattle.std.proofs.Common.{◌≡◌, ◌≤◌, length, drop}
 use mathlib.Core.List.{foldr}
 use Rattle.regions.specs.Region.{part}
 use Rattle.brandes.specs.Steps.{held_predecessors}
-use Rattle.brandes.proofs.Folds.{foldr_none, foldr_more, foldr_all}
 use Rattle.crossings.specs.Crossings.{left_across}
 use Rattle.crossings.proofs.accumulate.Given as goal
 

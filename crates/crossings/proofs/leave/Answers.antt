@@ -1,5 +1,5 @@
 -- `crossings::leave` meets its contract. Assumes nothing.
-use Rattle.std.proofs.Common.{◌≡◌, ℕ, ◌+◌, ◌-◌, ◌<◌, ◌≤◌, length, get_or, refl, arith, rules}
+use Rattle.std.proofs.Common.{◌≡◌, ℕ, ◌+◌, ◌-◌, ◌<◌, ◌≤◌, length, get_or, refl, arith}
 use Rattle.crossings.proofs.Passing.{left_across_lem}
 use Rattle.crossings.proofs.leave.Goals as goal
 use Rattle.crossings.proofs.leave.Goals.{Start}

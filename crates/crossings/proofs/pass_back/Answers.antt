@@ -1,5 +1,5 @@
 -- `crossings::pass_back` meets its contract: the entries before p and their pairs have taken their shares. Assumes nothing.
-use Rattle.std.proofs.Common.{◌≡◌, ℕ, ◌+◌, ◌-◌, ◌<◌, ◌≤◌, length, get_or, set, refl, ap, ◌∙◌, arith, length-set, rules}
+use Rattle.std.proofs.Common.{◌≡◌, ℕ, ◌+◌, ◌-◌, ◌<◌, length, get_or, set, refl, ap, ◌∙◌, arith, length-set, rules}
 use lib.Ieee.{Float}
 use Rattle.regions.specs.Region.{part}
 use Rattle.crossings.specs.Crossings.{crossed_all}

@@ -1,9 +1,7 @@
 -- `crossings::pass_back` meets its contract: the entries before p and their pairs have taken their shares. Assumes nothing.
-use Rattle.std.proofs.Common.{◌≡◌, ℕ, ◌+◌, ◌-◌, ◌<◌, ◌≤◌, length, get_or, set, refl, ap, ◌∙◌, arith, length-set, rules}
-use lib.Ieee.{Float}
+use Rattle.std.proofs.Common.{◌≡◌, ◌-◌, ◌≤◌, length}
 use Rattle.regions.specs.Region.{part}
 use Rattle.crossings.specs.Crossings.{crossed_all}
-use Rattle.crossings.proofs.Passing.{cross_none, cross_more}
 use Rattle.crossings.proofs.pass_back.Given as goal
 
 abbrev pub invariant-loop-p : goal.invariant-loop-p

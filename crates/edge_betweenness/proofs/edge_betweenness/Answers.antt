@@ -4,7 +4,6 @@ use Rattle.graph.specs.Given.{Given, given}
 use Rattle.graph.specs.Pres.{Passed}
 use Rattle.edge_betweenness.specs.Edges.{EdgeScores, edge_scores}
 use Rattle.edge_betweenness.proofs.EdgesEnding.{edge_tests, refused_edges, passed_edges, ready, score_asks, wipe_pre, ended_paths, ended_done}
-use borrow.Author.Rules.{rules}
 use Rattle.edge_betweenness.proofs.edge_betweenness.Goals as goal
 use Rattle.edge_betweenness.proofs.edge_betweenness.Goals.{Else-refuses, Start}
 

@@ -1,7 +1,6 @@
 -- `edge_totals::multiply` meets its contract: after i turns the first i floats are multiplied. Assumes nothing.
-use Rattle.std.proofs.Common.{◌≡◌, ℕ, ◌-◌, ◌≤◌, refl, subst, arith, rules}
+use Rattle.std.proofs.Common.{◌-◌, ◌≤◌}
 use Rattle.edge_totals.specs.Writes.{Multiplied}
-use Rattle.edge_totals.proofs.Factors.{multiplied_none, multiplied_more}
 use Rattle.edge_totals.proofs.multiply.Given as goal
 
 abbrev pub invariant-loop-i : goal.invariant-loop-i

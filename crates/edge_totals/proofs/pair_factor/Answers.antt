@@ -1,5 +1,5 @@
 -- `edge_totals::pair_factor` meets its contract, directed and undirected. Assumes nothing.
-use Rattle.std.proofs.Common.{true, false, rules}
+use Rattle.std.proofs.Common.{true, false}
 use lib.Ieee.{of_bits}
 use Rattle.edge_totals.proofs.Factors.{below_pairs, factor_is}
 use Rattle.edge_totals.proofs.pair_factor.Goals as goal

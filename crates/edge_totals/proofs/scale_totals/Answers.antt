@@ -1,5 +1,5 @@
 -- `edge_totals::scale_totals` meets its contract, case by case. Assumes nothing.
-use Rattle.std.proofs.Common.{Bool, ◌&&◌, ltb, ap, ◌∙◌, arith, rules, le-ltb}
+use Rattle.std.proofs.Common.{Bool, ◌&&◌, ltb, ap, ◌∙◌, arith, le-ltb}
 use Rattle.edge_totals.proofs.Factors.{scaled_by, not_scaled}
 use Rattle.edge_totals.proofs.scale_totals.Goals as goal
 

@@ -1,5 +1,5 @@
 -- `edge_totals::write_edges` meets its contract: what each step asks, and the results directed and undirected. Assumes nothing.
-use Rattle.std.proofs.Common.{arith, rules}
+use Rattle.std.proofs.Common.{arith}
 use Rattle.edge_totals.proofs.Results.{scale_asks, cursors_ask, forward_asks, written_directed, back_asks, written_both}
 use Rattle.edge_totals.proofs.write_edges.Goals as goal
 

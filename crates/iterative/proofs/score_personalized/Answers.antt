@@ -2,7 +2,6 @@
 use mathlib.Core.Path.{ap}
 use Rattle.outcomes.specs.Texts.{ended_of}
 use Rattle.lines.specs.declared.Measure.TheVariants.{Personalized}
-use borrow.Author.Rules.{rules}
 use Rattle.iterative.proofs.score_personalized.Goals as goal
 
 pub returns : goal.returns

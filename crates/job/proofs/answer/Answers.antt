@@ -5,7 +5,6 @@ use Rattle.reader.specs.Edges.{from_of, to_of, bits_of}
 use Rattle.reader.specs.Job.{edges_of}
 use Rattle.reader.proofs.Jobs.{edges_asked}
 use Rattle.job.proofs.Texts.{as_written, too_long, a_fault, a_job, same_answer}
-use borrow.Author.Rules.{rules}
 use Rattle.job.proofs.answer.Goals as goal
 
 pub returns-then-input-gt-INPUT : goal.returns-then-input-gt-INPUT

@@ -1,6 +1,5 @@
 -- `job::run` meets its contract. Assumes nothing.
 use Rattle.job.proofs.Texts.{no_room, all_written}
-use borrow.Author.Rules.{rules}
 use Rattle.job.proofs.run.Goals as goal
 
 pub returns-then-output-lt-OUTPUT : goal.returns-then-output-lt-OUTPUT

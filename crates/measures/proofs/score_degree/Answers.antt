@@ -2,7 +2,6 @@
 use mathlib.Core.Path.{ap}
 use Rattle.outcomes.specs.Texts.{plain_of}
 use Rattle.lines.specs.declared.Measure.TheVariants.{Degree}
-use borrow.Author.Rules.{rules}
 use Rattle.measures.proofs.score_degree.Goals as goal
 
 pub returns : goal.returns

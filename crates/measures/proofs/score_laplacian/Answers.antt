@@ -2,7 +2,6 @@
 use mathlib.Core.Path.{ap}
 use Rattle.outcomes.specs.Texts.{plain_of}
 use Rattle.lines.specs.declared.Measure.TheVariants.{Laplacian}
-use borrow.Author.Rules.{rules}
 use Rattle.measures.proofs.score_laplacian.Goals as goal
 
 pub returns : goal.returns

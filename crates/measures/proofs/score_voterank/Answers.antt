@@ -1,7 +1,6 @@
 -- `measures::score_voterank` meets its contract. Assumes nothing.
 use mathlib.Core.Path.{ap}
 use Rattle.outcomes.specs.Texts.{elected_of}
-use borrow.Author.Rules.{rules}
 use Rattle.measures.proofs.score_voterank.Goals as goal
 
 pub returns : goal.returns

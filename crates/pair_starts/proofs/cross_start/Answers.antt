@@ -1,7 +1,6 @@
 -- `pair_starts::cross_start` meets its contract: search with pairs, accumulation and taking back, one after the other. Assumes nothing.
 use native.Mathlib.Omega.{arith}
 use Rattle.pair_starts.proofs.Totalling.{cross_search, cross_paths, cross_accumulate, cross_forget, cross_release, cross_done}
-use borrow.Author.Rules.{rules}
 use Rattle.pair_starts.proofs.cross_start.Goals as goal
 
 pub overflow_add-beside : goal.overflow_add-beside

@@ -1,9 +1,6 @@
 -- `pair_starts::cross_starts` meets its contract: the starts before this one have been added to the totals. Assumes nothing.
 use Prim.Native.Nat.{◌-◌}
-use native.Mathlib.Omega.{arith}
-use Rattle.starts.proofs.Following.{added_none}
-use Rattle.pair_starts.proofs.Totalling.{AddedTotals, all_pre, all_more, all_paths, all_done}
-use borrow.Author.Rules.{rules}
+use Rattle.pair_starts.proofs.Totalling.{AddedTotals}
 use Rattle.pair_starts.proofs.cross_starts.Given as goal
 
 abbrev pub invariant-loop-start : goal.invariant-loop-start

@@ -1,6 +1,5 @@
 -- `scoring::score` meets its contract. Assumes nothing.
 use Rattle.scoring.specs.Scored.{scored_text}
-use borrow.Author.Rules.{rules}
 use Rattle.scoring.proofs.score.Goals as goal
 
 pub score_betweenness-requires : goal.score_betweenness-requires

@@ -7,7 +7,6 @@ use lib.Seq.{length-take-le}
 use lib.Ieee.{of_bits}
 use Rattle.scoring.proofs.Fronts.{doubled, on_doubles}
 use Rattle.scoring.specs.Scored.{on_zeros}
-use borrow.Author.Rules.{rules}
 use Rattle.scoring.proofs.score_job.Goals as goal
 
 pub slice_bounds-score-end : goal.slice_bounds-score-end
