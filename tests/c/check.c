@@ -2,7 +2,7 @@
  * Prints a line for each that is wrong, and a count. */
 #include "meadowrut.h"
 
-/* declared here, so that the file compiles for x86-64 where the C library's headers are another processor's */
+/* declared here, so that no header of the C library is needed */
 int printf(const char *, ...);
 
 enum { ROOM32 = 200, ROOM64 = 40, ROOMF = 200, SLOTS = 8, OUTPUT = 32768 };

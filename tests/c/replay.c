@@ -2,7 +2,7 @@
  * compares reports, results, the workspace's front and every element that must stay as it was. */
 #include "meadowrut.h"
 
-/* declared here, so that the file compiles for x86-64 where the C library's headers are another processor's */
+/* declared here, so that no header of the C library is needed */
 int printf(const char *, ...);
 long read(int, void *, size_t);
 

@@ -1,4 +1,4 @@
--- Laws of `edgesFrom`: its length, and its edges by their place. Assumes nothing.
+-- Laws of `edges_from`: its length, and its edges by their place. Assumes nothing.
 use mathlib.Core.Path.{◌≡◌, refl, sym, ap, ◌∙◌}
 use mathlib.Core.List.{List, [], ◌∷◌}
 use Prim.Native.Nat.{ℕ, zero, suc, ◌+◌, ◌<◌}

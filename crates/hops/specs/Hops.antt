@@ -11,7 +11,7 @@ pub data Hops (g : Graph) : ℕ → List ℕ → ℕ → Type 0 where
   stay : {a : ℕ} → Hops g a [] a
   hop : {a b i : ℕ} {p : List ℕ} → i < length (entries g a) → Hops g (get_or (entries g a) i 0) p b → Hops g a (i ∷ p) b
 
--- the number of hop sequences of length k from a to b (`how-many`: it is the length of a list of them all, each once)
+-- the number of hop sequences of length k from a to b (`how_many`: it is the length of a list of them all, each once)
 unfoldable pub walks : Graph → ℕ → ℕ → ℕ → ℕ
 walks g zero a b = same a b
 walks g (suc k) a b = sum_over (entries g a) (λ x. walks g k x b)
@@ -27,7 +27,7 @@ unfoldable pub seek : (ℕ → ℕ) → ℕ → ℕ → ℕ
 seek f zero k = unreached
 seek f (suc m) k = elim (f k) [ zero ↦ seek f m (suc k) | suc x ↦ k ]
 
--- the fewest hops from a to b, looked for below the number of nodes (`fewest-lt`: no fewest number is as large); `unreached` where no hops lead there
+-- the fewest hops from a to b, looked for below the number of nodes (`fewest_lt`: no fewest number is as large); `unreached` where no hops lead there
 unfoldable pub dist : Graph → ℕ → ℕ → ℕ
 dist g a b = seek (λ k. walks g k a b) g.nodes 0
 

@@ -1,4 +1,4 @@
--- Digits brought to 53, a subnormal's by its leading zeros: `rootOf` is right. Assumes nothing.
+-- Digits brought to 53, a subnormal's by its leading zeros: `root_of` is right. Assumes nothing.
 use Prim.Native.Nat.{ℕ, zero, suc, ◌≤◌, ◌<◌, ◌-◌, ◌+◌, ◌*◌, ◌^◌}
 use mathlib.Core.Path.{◌≡◌, sym, ap, ◌∙◌, subst}
 use native.Mathlib.Nat.{le_trans, le_of_eq, lt_of_le_of_lt, lt_of_lt_of_le, lt_of_not-le, lt_irrefl, mul_assoc, mul-le-mul_right, mul-lt-mul_of_pos_right}

@@ -1,4 +1,4 @@
--- A rounded whole root, scaled, is the double nearest to the root: `rootAt` is right. Assumes nothing.
+-- A rounded whole root, scaled, is the double nearest to the root: `root_at` is right. Assumes nothing.
 use Prim.Native.Nat.{ℕ, zero, suc, ◌+◌, ◌-◌, ◌*◌, ◌/◌, ◌%◌, ◌^◌, ◌≤◌, ◌<◌}
 use mathlib.Core.Path.{◌≡◌, sym, ap, ◌∙◌, subst}
 use mathlib.Core.Logic.{◌⊎◌, inl, inr}
@@ -78,7 +78,7 @@ module _ (a n k N : ℕ) (R : Rounded a n) (big : 2 ^ 52 ≤ a) (same : 4 * N �
     more = λ q f g h. subst (λ (x : ℕ). 4 * N < (parts q + x) * (parts q + x)) (sym P) (over (digits q) (parts q) (shape q f g) (subst (λ (x : ℕ). x < parts q) P h));
   }
 
--- ---- `rootAt`
+-- ---- `root_at`
 
 -- a, shifted by the exponent's last bit
 module _ (a e : ℕ) (lo : 2 ^ 52 ≤ a) (hi : a < 2 ^ 53) where

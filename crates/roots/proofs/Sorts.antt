@@ -1,4 +1,4 @@
--- Which sort of double has which sign, exponent and fraction, and what its root is: `sqrtOf` is right. Assumes nothing.
+-- Which sort of double has which sign, exponent and fraction, and what its root is: `sqrt_of` is right. Assumes nothing.
 use Prim.Native.Nat.{ℕ, zero, suc, ◌+◌, ◌-◌, ◌*◌, ◌/◌, ◌%◌, ◌^◌, ◌<◌}
 use mathlib.Core.Path.{◌≡◌, refl, sym, ap, ◌∙◌, subst}
 use mathlib.Core.Logic.{◌⊎◌, inl, inr}

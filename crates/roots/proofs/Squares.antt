@@ -1,4 +1,4 @@
--- Squares of whole numbers, and `isqrt` and `roundRoot` by them. Assumes nothing.
+-- Squares of whole numbers, and `isqrt` and `round_root` by them. Assumes nothing.
 use Prim.Native.Nat.{ℕ, zero, suc, ◌+◌, ◌-◌, ◌*◌, ◌/◌, ◌%◌, ◌^◌, ◌≤◌, ◌<◌}
 use mathlib.Core.Path.{◌≡◌, refl, sym, ap, ◌∙◌, subst}
 use mathlib.Core.Logic.{◌⊎◌, inl, inr}

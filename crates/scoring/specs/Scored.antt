@@ -30,7 +30,7 @@ scored_text Degree top l = degree_text top l
 abbrev pub job_fronts : Fronts
 job_fronts = usual_fronts job_node_limit job_edge_limit
 
--- beside a graph: slots for the results of the largest job and a workspace of its fronts, all of them zero; all others with room give the same text (`any-workspace`)
+-- beside a graph: slots for the results of the largest job and a workspace of its fronts, all of them zero; all others with room give the same text (`any_workspace`)
 unfoldable pub on_zeros : List ℕ → List ℕ → List Float → Lent
 on_zeros from to weight =
     lent from to weight (replicate job_node_limit zero_f) (replicate job_node_limit 0) (replicate job_fronts.narrow 0) (replicate job_fronts.wide 0) (replicate job_fronts.floats zero_f)

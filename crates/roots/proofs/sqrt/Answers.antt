@@ -18,7 +18,7 @@ use Rattle.roots.proofs.sqrt.Goals.{Else-exponent-eq-EXPONENT, Else-exponent-fra
 held : (c : goal.Start) → T (fits binary64 c.args.x)
 held c = subst T (sym c.well_formed.0.1) tt
 
--- what is returned is `sqrtOf x`, so it is the root
+-- what is returned is `sqrt_of x`, so it is the root
 both : (c : goal.Start) (r : Float) → r ≡ sqrt_of c.args.x → (r ≡ sqrt_of c.args.x) × SquareRoot c.args.x r
 both c r e = (e, subst (SquareRoot c.args.x) (sym e) (sqrt_of_is c.args.x (held c)))
 
