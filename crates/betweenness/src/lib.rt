@@ -86,7 +86,8 @@ fn write_scores(nodes: usize, directed: bool, normalized: bool, wf: &[f64], scor
     ensures { scores.new ≡ over (list_of (λ v. scaled nodes directed normalized (slice_index_or wf.now v nan)) nodes) scores.old }
 {
     if normalized {
-        if 2 < nodes {
+        let scales = 2 < nodes;
+        if scales {
             let pairs = (nodes - 1) * (nodes - 2);
             let factor = 1.0 / std::num::nearest_u64_to_f64(pairs as u64);
             write_scaled(nodes, factor, wf, scores);

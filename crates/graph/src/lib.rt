@@ -107,7 +107,8 @@ fn size_wrong(nodes: usize, from: &[u32], to: &[u32], weight: &[f64]) -> bool
     if Settings::NODES < nodes {
         return true;
     }
-    if Settings::EDGES < from.len() {
+    let long = Settings::EDGES < from.len();
+    if long {
         return true;
     }
     if to.len() != from.len() {

@@ -30,7 +30,8 @@ pub fn sqrt(x: f64) -> f64
     if exponent + fraction == 0 {
         return x;
     }
-    if sign == 1 {
+    let negative = sign == 1;
+    if negative {
         return 0.0 / 0.0;
     }
     // +infinity.
@@ -58,7 +59,8 @@ pub fn max(a: f64, b: f64) -> f64
         return b;
     }
     if a == b {
-        if f64::to_bits(a) >> 63 == 1 {
+        let bits = f64::to_bits(a);
+        if bits >> 63 == 1 {
             return b;
         }
         return a;

@@ -60,7 +60,8 @@ pub fn decimal(s: &[u8]) -> Number
     if s.len() == 0 {
         return Number::Fault;
     }
-    if s[0] != b'0' {
+    let led = s[0] != b'0';
+    if led {
         return digits(s, 10);
     }
     if s.len() == 1 {

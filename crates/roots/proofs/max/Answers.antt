@@ -13,16 +13,16 @@ held c = subst T (sym c.well_formed.0.1) tt
 pub returns-then-a-b : goal.returns-then-a-b
 returns-then-a-b c = let s = c.args in max_less s.a s.b c.if-a-b.true
 
-pub float_to_bits-a : goal.float_to_bits-a
-float_to_bits-a c = let s = c.args in equal_numbers s.a s.b c.if-a-b-2.true
+pub float_to_bits-bits : goal.float_to_bits-bits
+float_to_bits-bits c = let s = c.args in equal_numbers s.a s.b c.if-a-b-2.true
 
-pub returns-then-a-eq1 : goal.returns-then-a-eq1
-returns-then-a-eq1 c =
-    max_equal_negative c.args.a c.args.b (held (goal.at.returns-then-a-eq1 c).Start) c.if-a-b.false c.if-a-b-2.true c.if-a-eq1.true
+pub returns-then-bits-eq1 : goal.returns-then-bits-eq1
+returns-then-bits-eq1 c =
+    max_equal_negative c.args.a c.args.b (held (goal.at.returns-then-bits-eq1 c).Start) c.if-a-b.false c.if-a-b-2.true c.if-bits-eq1.true
 
 pub returns-then-a-b-2 : goal.returns-then-a-b-2
 returns-then-a-b-2 c =
-    max_equal c.args.a c.args.b (held (goal.at.returns-then-a-b-2 c).Start) c.if-a-b.false c.if-a-b-2.true c.if-a-eq1.false
+    max_equal c.args.a c.args.b (held (goal.at.returns-then-a-b-2 c).Start) c.if-a-b.false c.if-a-b-2.true c.if-bits-eq1.false
 
 pub returns-then-a : goal.returns-then-a
 returns-then-a c = let s = c.args in max_nan s.a s.b (is_nan_lem s.a c.if-a.true)

@@ -51,10 +51,10 @@ returns-then-exponent-fraction-eq0 c =
 some : (c : goal.Else-exponent-fraction-eq0) → Zero c.args.x → ⊥
 some c e = let b = to_bits binary64 c.args.x in omega (arith, exponent-is b, fraction-is b, c.if-exponent-fraction-eq0.false)
 
-pub returns-then-sign-eq1 : goal.returns-then-sign-eq1
+pub returns-then-negative : goal.returns-then-negative
 unfolding of_bits div
-returns-then-sign-eq1 c =
-    both (goal.at.returns-then-sign-eq1 c).Start _ (less_root c.args.x (held (goal.at.returns-then-sign-eq1 c).Start) (number (goal.at.returns-then-sign-eq1 c).Else-x) (some (goal.at.returns-then-sign-eq1 c).Else-exponent-fraction-eq0) c.if-sign-eq1.true)
+returns-then-negative c =
+    both (goal.at.returns-then-negative c).Start _ (less_root c.args.x (held (goal.at.returns-then-negative c).Start) (number (goal.at.returns-then-negative c).Else-x) (some (goal.at.returns-then-negative c).Else-exponent-fraction-eq0) c.if-negative.true)
 
 -- the exponent 2047 has the fraction 0
 pub returns-then-exponent-eq-EXPONENT : goal.returns-then-exponent-eq-EXPONENT
@@ -62,13 +62,13 @@ returns-then-exponent-eq-EXPONENT c =
     let b = to_bits binary64 c.args.x in
     both (goal.at.returns-then-exponent-eq-EXPONENT c).Start _
     (inf_root c.args.x (held (goal.at.returns-then-exponent-eq-EXPONENT c).Start)
-    (omega (arith, exponent-is b, c.if-exponent-eq-EXPONENT.true, c.if-sign-eq1.false, to_bits-lt binary64 c.args.x (held (goal.at.returns-then-exponent-eq-EXPONENT c).Start), small_bits c.args.x (held (goal.at.returns-then-exponent-eq-EXPONENT c).Start) (number (goal.at.returns-then-exponent-eq-EXPONENT c).Else-x))))
+    (omega (arith, exponent-is b, c.if-exponent-eq-EXPONENT.true, c.if-negative.false, to_bits-lt binary64 c.args.x (held (goal.at.returns-then-exponent-eq-EXPONENT c).Start), small_bits c.args.x (held (goal.at.returns-then-exponent-eq-EXPONENT c).Start) (number (goal.at.returns-then-exponent-eq-EXPONENT c).Else-x))))
 
 -- past all the tests
 above : (c : goal.Else-exponent-eq-EXPONENT) → Above c.args.x
 above c =
     let b = to_bits binary64 c.args.x in
-    left_over c.args.x (held c.before.before.before.before) (number c.before.before.before) (some c.before.before) c.if-sign-eq1.false
+    left_over c.args.x (held c.before.before.before.before) (number c.before.before.before) (some c.before.before) c.if-negative.false
     (λ t. c.if-exponent-eq-EXPONENT.false (omega (arith, exponent-is b)))
 
 bits : (c : goal.Else-exponent-eq-EXPONENT) → Bits (to_bits binary64 c.args.x) (parts c.args.x)
