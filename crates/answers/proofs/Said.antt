@@ -1,18 +1,13 @@
 -- What a call says determines what it returned. Assumes nothing.
 use mathlib.Core.Path.{◌≡◌, refl, sym, ap, ◌∙◌}
-use mathlib.Core.Bool.{cond}
+use mathlib.Core.Bool.{Bool, true, false, cond}
+use Rattle.std.specs.Prelude.{Result, Ok, Err}
 use Prim.Native.Nat.{ℕ}
 use lib.Dec.{eqb}
 use Rattle.answers.specs.declared.Answer.{Answer}
 use Rattle.answers.specs.declared.Answer.TheVariants.{Done, Empty, Size, Node, Number, Room, Damping, Rounds, Start, Length, Paths, Unsettled, Text}
 use Rattle.answers.specs.declared.Refusal.{Refusal}
-use Rattle.answers.specs.declared.Plain.{Plain}
-use Rattle.answers.specs.declared.Plain.TheVariants as plain
-use Rattle.answers.specs.declared.Ended.{Ended}
-use Rattle.answers.specs.declared.Ended.TheVariants as ended
-use Rattle.answers.specs.declared.Elected.{Elected}
-use Rattle.answers.specs.declared.Elected.TheVariants as elected
-use Rattle.answers.specs.Answers.{number_of, Said, refusal, said_plain, said_ended, said_elected}
+use Rattle.answers.specs.Answers.{number_of, Said, refuses, refusal, said_by, refused_if}
 
 -- the answer that has a number
 abbrev named : ℕ → Answer
@@ -56,20 +51,32 @@ same_refusal r s e = ap (λ (a : Answer). record { answer = a }) (number_names e
 number_in : {Values : Type 0} {j k : ℕ} → ◌≡◌ {A = Said Values} (refusal j) (refusal k) → j ≡ k
 number_in e = cc
 
-pub plain_returned : (p q : Plain) → said_plain p ≡ said_plain q → p ≡ q
-plain_returned plain.Done plain.Done e = refl
-plain_returned plain.Done (plain.Refused r) e = cc
-plain_returned (plain.Refused r) plain.Done e = cc
-plain_returned (plain.Refused r) (plain.Refused s) e = ap plain.Refused (same_refusal r s (number_in e))
+pub returned : {Values : Type 0} (p q : Result Values Refusal) → said_by p ≡ said_by q → p ≡ q
+returned (Ok x) (Ok y) e = cc
+returned (Ok x) (Err r) e = cc
+returned (Err r) (Ok y) e = cc
+returned (Err r) (Err s) e = ap Err (same_refusal r s (number_in e))
 
-pub ended_returned : (p q : Ended) → said_ended p ≡ said_ended q → p ≡ q
-ended_returned (ended.Done x) (ended.Done y) e = cc
-ended_returned (ended.Done x) (ended.Refused r) e = cc
-ended_returned (ended.Refused r) (ended.Done y) e = cc
-ended_returned (ended.Refused r) (ended.Refused s) e = ap ended.Refused (same_refusal r s (number_in e))
+-- what a check returns, by whether the answer refuses
+abbrev by : Answer → Bool → Result (Unit {0}) Refusal
+by a b = cond b (Err (record { answer = a })) (Ok tt)
 
-pub elected_returned : (p q : Elected) → said_elected p ≡ said_elected q → p ≡ q
-elected_returned (elected.Done x) (elected.Done y) e = cc
-elected_returned (elected.Done x) (elected.Refused r) e = cc
-elected_returned (elected.Refused r) (elected.Done y) e = cc
-elected_returned (elected.Refused r) (elected.Refused s) e = ap elected.Refused (same_refusal r s (number_in e))
+err_by : (a : Answer) (r : Refusal) (b : Bool) → refuses a ≡ b → by a b ≡ Err r → (refuses a ≡ true) × (r.answer ≡ a)
+err_by a r true t q = (t, cc)
+err_by a r false t q = cc
+
+ok_by : (a : Answer) (v : Unit {0}) (b : Bool) → refuses a ≡ b → by a b ≡ Ok v → refuses a ≡ false
+ok_by a v true t q = cc
+ok_by a v false t q = t
+
+-- a check that found a refusal
+pub refused_err : (a : Answer) (r : Refusal) → refused_if a ≡ Err r → (refuses a ≡ true) × (r.answer ≡ a)
+refused_err a r e = err_by a r (refuses a) refl e
+
+-- a check that found none
+pub refused_ok : (a : Answer) (v : Unit {0}) → refused_if a ≡ Ok v → refuses a ≡ false
+refused_ok a v e = ok_by a v (refuses a) refl e
+
+-- a refusal by its answer
+pub refused_by : {r : Refusal} {a : Answer} → r.answer ≡ a → ◌≡◌ {A = Result (Unit {0}) Refusal} (Err r) (Err (record { answer = a }))
+refused_by {r} {a} e = ap (λ (x : Answer). Err (record { answer = x })) e

@@ -1,14 +1,8 @@
 -- The numbered answers of document 01, and what a call says: its answer's number and, when done, its values. Definitions only.
-use Rattle.std.specs.Prelude.{Bool, not, ℕ, eqb}
+use Rattle.std.specs.Prelude.{Bool, not, cond, ℕ, eqb, Result, Ok, Err}
 use Rattle.answers.specs.declared.Answer.{Answer}
 use Rattle.answers.specs.declared.Answer.TheVariants.{Done, Empty, Size, Node, Number, Room, Damping, Rounds, Start, Length, Paths, Unsettled, Text}
-use Rattle.answers.specs.declared.Plain.{Plain}
-use Rattle.answers.specs.declared.Plain.TheVariants as plain
-use Rattle.answers.specs.declared.Ended.{Ended}
-use Rattle.answers.specs.declared.Ended.TheVariants as ended
-use Rattle.answers.specs.declared.Elected.{Elected}
-use Rattle.answers.specs.declared.Elected.TheVariants as elected
-use Rattle.answers.specs.declared.Rounds.{Rounds as RoundState}
+use Rattle.answers.specs.declared.Refusal.{Refusal}
 
 -- the number that the table gives an answer
 abbrev pub number_of : Answer → ℕ
@@ -44,17 +38,12 @@ number_said (refusal k) = k
 abbrev pub refused_with : {Values : Type 0} → Answer → Said Values
 refused_with a = refusal (number_of a)
 
--- what a call says that has no values of its own
-abbrev pub said_plain : Plain → Said (Unit {0})
-said_plain plain.Done = done tt
-said_plain (plain.Refused r) = refused_with r.answer
+-- what a call says by what it returned: DONE with its values (none, or the settings, the rounds done and whether a stop rule was met,
+-- or how many were elected), or the number of why it was refused
+abbrev pub said_by : {Values : Type 0} → Result Values Refusal → Said Values
+said_by (Ok v) = done v
+said_by (Err r) = refused_with r.answer
 
--- what an iterative call says: the settings, the rounds done, and whether a stop rule was met
-abbrev pub said_ended : Ended → Said RoundState
-said_ended (ended.Done r) = done r
-said_ended (ended.Refused r) = refused_with r.answer
-
--- what an election says: how many were elected
-abbrev pub said_elected : Elected → Said ℕ
-said_elected (elected.Done k) = done k
-said_elected (elected.Refused r) = refused_with r.answer
+-- what a check returns by the answer it finds: Ok for DONE, else the refusal with that answer
+abbrev pub refused_if : Answer → Result (Unit {0}) Refusal
+refused_if a = cond (refuses a) (Err (record { answer = a })) (Ok tt)

@@ -2,11 +2,11 @@
 #![tactic(auto)]
 
 ghost use Rattle.std.specs.Prelude.{◌≡◌};
-ghost use Rattle.answers.specs.Answers.{number_of, number_said, refuses, said_plain, said_ended, said_elected};
+ghost use Rattle.answers.specs.Answers.{number_of, number_said, said_by};
 ghost use Rattle.answers.specs.Settings.{usual_settings};
 
 // Document 01's answers, in the order of their numbers.
-#[derive(Clone, Copy)]
+#[derive(Clone, Copy, Debug, PartialEq, Eq)]
 pub enum Answer {
     Done,
     Empty,
@@ -24,7 +24,7 @@ pub enum Answer {
 }
 
 // Why a call did not answer DONE.
-#[derive(Clone, Copy)]
+#[derive(Clone, Copy, Debug, PartialEq, Eq)]
 pub struct Refusal {
     pub answer: Answer,
 }
@@ -43,27 +43,6 @@ pub struct Rounds {
     pub settings: Settings,
     pub rounds: u64,
     pub settled: bool,
-}
-
-// What a call returns that has no values of its own.
-#[derive(Clone, Copy)]
-pub enum Plain {
-    Done,
-    Refused(Refusal),
-}
-
-// What an iterative call returns.
-#[derive(Clone, Copy)]
-pub enum Ended {
-    Done(Rounds),
-    Refused(Refusal),
-}
-
-// What an election returns: how many were elected.
-#[derive(Clone, Copy)]
-pub enum Elected {
-    Done(usize),
-    Refused(Refusal),
 }
 
 impl Settings {
@@ -89,68 +68,43 @@ impl Settings {
 }
 
 // The answer's number.
-pub fn number(a: Answer) -> u32
-    ensures { result ≡ number_of a }
-{
-    match a {
-        Answer::Done => 0,
-        Answer::Empty => 1,
-        Answer::Size => 2,
-        Answer::Node => 3,
-        Answer::Number => 4,
-        Answer::Room => 5,
-        Answer::Damping => 6,
-        Answer::Rounds => 7,
-        Answer::Start => 8,
-        Answer::Length => 9,
-        Answer::Paths => 10,
-        Answer::Unsettled => 11,
-        Answer::Text => 12,
+impl From<Answer> for u32 {
+    ghost from_gives = { λ a k. k ≡ number_of a };
+
+    fn from(a: Answer) -> u32 {
+        match a {
+            Answer::Done => 0,
+            Answer::Empty => 1,
+            Answer::Size => 2,
+            Answer::Node => 3,
+            Answer::Number => 4,
+            Answer::Room => 5,
+            Answer::Damping => 6,
+            Answer::Rounds => 7,
+            Answer::Start => 8,
+            Answer::Length => 9,
+            Answer::Paths => 10,
+            Answer::Unsettled => 11,
+            Answer::Text => 12,
+        }
+    }
+}
+
+// The refusal with an answer.
+impl From<Answer> for Refusal {
+    ghost from_gives = { λ a r. r.answer ≡ a };
+
+    fn from(answer: Answer) -> Refusal {
+        Refusal { answer }
     }
 }
 
 // The number of what a call returned.
-pub fn plain_number(p: Plain) -> u32
-    ensures { result ≡ number_said (said_plain p) }
+pub fn number_said<T: Drop>(said: Result<T, Refusal>) -> u32
+    ensures { result ≡ number_said (said_by said) }
 {
-    match p {
-        Plain::Done => 0,
-        Plain::Refused(r) => {
-            let answer = r.answer;
-            number(answer)
-        }
+    match said {
+        Ok(_) => 0,
+        Err(refusal) => u32::from(refusal.answer),
     }
-}
-
-// The number of what an iterative call returned.
-pub fn ended_number(e: Ended) -> u32
-    ensures { result ≡ number_said (said_ended e) }
-{
-    match e {
-        Ended::Done(_) => 0,
-        Ended::Refused(r) => {
-            let answer = r.answer;
-            number(answer)
-        }
-    }
-}
-
-// The number of what an election returned.
-pub fn elected_number(e: Elected) -> u32
-    ensures { result ≡ number_said (said_elected e) }
-{
-    match e {
-        Elected::Done(_) => 0,
-        Elected::Refused(r) => {
-            let answer = r.answer;
-            number(answer)
-        }
-    }
-}
-
-// Every answer but DONE refuses.
-pub fn refuses(a: Answer) -> bool
-    ensures { result ≡ refuses a }
-{
-    number(a) != 0
 }

@@ -1,11 +1,10 @@
 -- What passes between C and the calls: flags as numbers, what a call said as a struct of numbers. Definitions only.
-use Rattle.std.specs.Prelude.{Bool, not, List, [], ℕ, eqb}
+use Rattle.std.specs.Prelude.{Bool, not, ℕ, eqb}
 use Rattle.regions.specs.Region.{zero_f}
 use Rattle.answers.specs.declared.Rounds.{Rounds}
 use Rattle.answers.specs.Answers.{Said, done, refusal}
 use Rattle.graph.specs.Edges.{one_if}
 use Rattle.graph.specs.Left.{Left, left}
-use Rattle.ran.specs.Ran.{RunLeft}
 use Rattle.boundary.specs.declared.Settings.{Settings}
 use Rattle.boundary.specs.declared.Report.{Report}
 use Rattle.boundary.specs.declared.Election.{Election}
@@ -46,7 +45,3 @@ written (refusal k) = record { answer = k; length = 0 }
 -- what a call leaves, with what it says put another way
 abbrev pub voiced : {A B R : Type 0} → (A → B) → Left A R → Left B R
 voiced f o = left (f o.says) o.results o.w32 o.w64 o.wf
-
--- what `run` leaves, the output being its result; it is lent no workspace
-abbrev pub run_voiced : RunLeft → Left Text (List ℕ)
-run_voiced o = left (written o.says) o.output [] [] []

@@ -1,14 +1,11 @@
-// What passes between C and the calls: the structs of include/meadowrut.h, and what a call said in their numbers.
+// What passes between C and the calls: the structs of include/meadowrut.h, the graph that C lends, and what a call said in numbers.
 #![tactic(auto)]
 
 ghost use Rattle.std.specs.Prelude.{◌≡◌};
-ghost use Rattle.answers.specs.Answers.{done, refused_with, said_ended, said_elected};
-ghost use Rattle.graph.specs.Edges.{one_if};
-ghost use Rattle.ran.specs.Ran.{said_ran};
-ghost use Rattle.boundary.specs.Boundary.{asked, reported, counted, written};
+ghost use Rattle.answers.specs.Answers.{done, refused_with, said_by};
+ghost use Rattle.boundary.specs.Boundary.{asked, returned, reported, counted, written};
 
-use answers::{Answer, Elected, Ended, Rounds};
-use ran::Ran;
+use answers::{Refusal, Rounds};
 
 // What the iterative calls are asked.
 #[repr(C)]
@@ -45,104 +42,102 @@ pub struct Text {
     pub length: usize,
 }
 
-// The settings as the calls take them.
-pub fn settings_of(s: Settings) -> answers::Settings
-    ensures { result ≡ asked s }
-{
-    answers::Settings {
-        damping: s.damping,
-        tolerance: s.tolerance,
-        limit: s.limit,
+// The settings of C as the calls take them.
+impl From<Settings> for answers::Settings {
+    ghost from_gives = { λ s r. r ≡ asked s };
+
+    fn from(s: Settings) -> answers::Settings {
+        answers::Settings {
+            damping: s.damping,
+            tolerance: s.tolerance,
+            limit: s.limit,
+        }
     }
 }
 
-// What an iterative call returned, in numbers; a refusal's other numbers are 0.
-pub fn report_of(e: Ended) -> Report
-    ensures { result ≡ reported (said_ended e) }
-{
-    match e {
-        Ended::Done(r) => done_report(r),
-        Ended::Refused(r) => {
-            let answer = r.answer;
-            refused_report(answer)
+// The settings of a call as C has them.
+impl From<answers::Settings> for Settings {
+    ghost from_gives = { λ s r. r ≡ returned s };
+
+    fn from(settings: answers::Settings) -> Settings {
+        Settings {
+            damping: settings.damping,
+            tolerance: settings.tolerance,
+            limit: settings.limit,
         }
     }
 }
 
 // The numbers of an iterative call that is done.
-fn done_report(r: Rounds) -> Report
-    ensures { result ≡ reported (done r) }
-{
-    let s = r.settings;
-    Report {
-        answer: 0,
-        settled: as_number(r.settled),
-        rounds: r.rounds,
-        settings: Settings {
-            damping: s.damping,
-            tolerance: s.tolerance,
-            limit: s.limit,
-        },
+impl From<Rounds> for Report {
+    ghost from_gives = { λ r report. report ≡ reported (done r) };
+
+    fn from(r: Rounds) -> Report {
+        Report {
+            answer: 0,
+            settled: u32::from(r.settled),
+            rounds: r.rounds,
+            settings: Settings::from(r.settings),
+        }
     }
 }
 
-// The numbers of an iterative call that was refused.
-fn refused_report(answer: Answer) -> Report
-    ensures { result ≡ reported (refused_with answer) }
-{
-    Report {
-        answer: answers::number(answer),
-        settled: 0,
-        rounds: 0,
-        settings: Settings {
-            damping: 0.0,
-            tolerance: 0.0,
-            limit: 0,
-        },
+// The numbers of an iterative call that was refused: all but the answer's are 0.
+impl From<Refusal> for Report {
+    ghost from_gives = { λ r report. report ≡ reported (refused_with r.answer) };
+
+    fn from(refusal: Refusal) -> Report {
+        Report {
+            answer: u32::from(refusal.answer),
+            settled: 0,
+            rounds: 0,
+            settings: Settings {
+                damping: 0.0,
+                tolerance: 0.0,
+                limit: 0,
+            },
+        }
+    }
+}
+
+// What an iterative call returned, in numbers.
+impl From<Result<Rounds, Refusal>> for Report {
+    ghost from_gives = { λ said report. report ≡ reported (said_by said) };
+
+    fn from(said: Result<Rounds, Refusal>) -> Report {
+        match said {
+            Ok(rounds) => Report::from(rounds),
+            Err(refusal) => Report::from(refusal),
+        }
     }
 }
 
 // What an election returned, in numbers.
-pub fn election_of(e: Elected) -> Election
-    ensures { result ≡ counted (said_elected e) }
-{
-    match e {
-        Elected::Done(k) => Election {
-            answer: 0,
-            elected: k,
-        },
-        Elected::Refused(r) => {
-            let answer = r.answer;
-            Election {
-                answer: answers::number(answer),
+impl From<Result<usize, Refusal>> for Election {
+    ghost from_gives = { λ said election. election ≡ counted (said_by said) };
+
+    fn from(said: Result<usize, Refusal>) -> Election {
+        match said {
+            Ok(elected) => Election { answer: 0, elected },
+            Err(refusal) => Election {
+                answer: u32::from(refusal.answer),
                 elected: 0,
-            }
+            },
         }
     }
 }
 
 // What `run` returned, in numbers.
-pub fn text_of(ran: Ran) -> Text
-    ensures { result ≡ written (said_ran ran) }
-{
-    match ran {
-        Ran::Written(bytes) => Text {
-            answer: 0,
-            length: bytes,
-        },
-        Ran::Refused(r) => {
-            let answer = r.answer;
-            Text {
-                answer: answers::number(answer),
+impl From<Result<usize, Refusal>> for Text {
+    ghost from_gives = { λ said text. text ≡ written (said_by said) };
+
+    fn from(said: Result<usize, Refusal>) -> Text {
+        match said {
+            Ok(length) => Text { answer: 0, length },
+            Err(refusal) => Text {
+                answer: u32::from(refusal.answer),
                 length: 0,
-            }
+            },
         }
     }
-}
-
-// 1 for yes, 0 for no.
-fn as_number(b: bool) -> u32
-    ensures { result ≡ one_if b }
-{
-    if b { 1 } else { 0 }
 }

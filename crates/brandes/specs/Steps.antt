@@ -5,6 +5,7 @@ use Rattle.std.specs.Float.{nan, binary64}
 use Rattle.std.specs.Float.Ieee.{add}
 use Rattle.regions.specs.Doubles.{double, one}
 use Rattle.regions.specs.Region.{part, zero_f}
+use Rattle.predecessors.specs.declared.Tracks.{Tracks}
 use Rattle.brandes.specs.Shares.{share, grow}
 
 -- the count of v that the 64-bit numbers hold, as a double
@@ -15,17 +16,15 @@ held_count counts v = double (slice_index counts v)
 unfoldable pub passed_back : ℕ → List ℕ → Float → Float → List Float → List ℕ → List Float
 passed_back n counts countW grown floats vs = foldl (λ f v. grow f (n + v) (share (held_count counts v) countW grown)) floats vs
 
--- the places a to e of w32 hold nodes, and each has a count and a delta
-pub record PassPre (n a e : ℕ) (w32 w64 : List ℕ) (wf : List Float) : Type 0 where
-  pub ordered : a ≤ e
-  pub room : e ≤ length w32
+-- the entries are nodes, and each has a count and a delta
+pub record PassPre (n : ℕ) (vs w64 : List ℕ) (wf : List Float) : Type 0 where
   pub counts : n ≤ length w64
   pub floats : n + n ≤ length wf
-  pub nodes : (p : ℕ) → a ≤ p → p < e → slice_index w32 p < n
+  pub nodes : (p : ℕ) → p < length vs → slice_index vs p < n
 
--- the predecessor entries of w that w32 holds: their offsets from `first`, their ends from `last`, the entries from `base`
-abbrev pub held_predecessors : ℕ → ℕ → ℕ → List ℕ → ℕ → List ℕ
-held_predecessors first last base w32 w = part w32 (base + slice_index w32 (first + w)) (slice_index w32 (last + w) - slice_index w32 (first + w))
+-- the predecessor entries of w that w32 holds
+abbrev pub held_predecessors : Tracks → List ℕ → ℕ → List ℕ
+held_predecessors t w32 w = part w32 (t.base + slice_index w32 (t.first + w)) (slice_index w32 (t.last + w) - slice_index w32 (t.first + w))
 
 -- floats after w left: its predecessors took their shares, and unless it is the start its score, one of the first n, grew by its delta
 unfoldable pub left_by : ℕ → List ℕ → (ℕ → List ℕ) → ℕ → ℕ → List Float → List Float
@@ -35,43 +34,43 @@ left_by n counts predecessors s w floats =
     (grow (passed_back n counts (held_count counts w) (add binary64 one (slice_index_or floats (n + w) nan)) floats (predecessors w)) w (slice_index_or floats (n + w) nan))
 
 -- the predecessor entries that w32 holds are nodes
-pub record HeldEntries (n first last base : ℕ) (w32 : List ℕ) : Type 0 where
-  pub firsts : first + n ≤ length w32
-  pub lasts : last + n ≤ length w32
-  pub ordered : (w : ℕ) → w < n → slice_index w32 (first + w) ≤ slice_index w32 (last + w)
-  pub inside : (w : ℕ) → w < n → base + slice_index w32 (last + w) ≤ length w32
-  pub nodes : (w k : ℕ) → w < n → slice_index w32 (first + w) ≤ k → k < slice_index w32 (last + w) → slice_index w32 (base + k) < n
+pub record HeldEntries (t : Tracks) (w32 : List ℕ) : Type 0 where
+  pub firsts : t.first + t.places.nodes ≤ length w32
+  pub lasts : t.last + t.places.nodes ≤ length w32
+  pub ordered : (w : ℕ) → w < t.places.nodes → slice_index w32 (t.first + w) ≤ slice_index w32 (t.last + w)
+  pub inside : (w : ℕ) → w < t.places.nodes → t.base + slice_index w32 (t.last + w) ≤ length w32
+  pub nodes : (w k : ℕ) → w < t.places.nodes → slice_index w32 (t.first + w) ≤ k → k < slice_index w32 (t.last + w) → slice_index w32 (t.base + k) < t.places.nodes
 
 -- what `leave` asks: a node w, predecessor entries that are nodes, and a count, a score and a delta for each node
-pub record LeavePre (n first last base w : ℕ) (w32 w64 : List ℕ) (wf : List Float) : Type 0 where
-  pub kept : HeldEntries n first last base w32
-  pub node : w < n
-  pub counts : n ≤ length w64
-  pub floats : n + n ≤ length wf
+pub record LeavePre (t : Tracks) (w : ℕ) (w32 w64 : List ℕ) (wf : List Float) : Type 0 where
+  pub kept : HeldEntries t w32
+  pub node : w < t.places.nodes
+  pub counts : t.places.nodes ≤ length w64
+  pub floats : t.places.nodes + t.places.nodes ≤ length wf
 
 -- the queue holds `found` nodes, with their predecessor entries
-pub record AccumulatePre (n queue first last base found : ℕ) (w32 w64 : List ℕ) (wf : List Float) : Type 0 where
-  pub kept : HeldEntries n first last base w32
-  pub room : queue + found ≤ length w32
-  pub queued : (i : ℕ) → i < found → slice_index w32 (queue + i) < n
-  pub counts : n ≤ length w64
-  pub floats : n + n ≤ length wf
+pub record AccumulatePre (t : Tracks) (found : ℕ) (w32 w64 : List ℕ) (wf : List Float) : Type 0 where
+  pub kept : HeldEntries t w32
+  pub room : t.places.queue + found ≤ length w32
+  pub queued : (i : ℕ) → i < found → slice_index w32 (t.places.queue + i) < t.places.nodes
+  pub counts : t.places.nodes ≤ length w64
+  pub floats : t.places.nodes + t.places.nodes ≤ length wf
 
 -- ---- back to the beginning
 
 -- what `release` asks: the first `tail` places of the queue are nodes, and the offsets and ends of their entries stand behind it
-pub record ReleasePre (n tail queue first last : ℕ) (w : List ℕ) (wf : List Float) : Type 0 where
-  pub before : queue + tail ≤ first
-  pub firsts : first + n ≤ last
-  pub lasts : last + n ≤ length w
-  pub floats : n + n ≤ length wf
-  pub queued : (i : ℕ) → i < tail → slice_index w (queue + i) < n
+pub record ReleasePre (t : Tracks) (tail : ℕ) (w : List ℕ) (wf : List Float) : Type 0 where
+  pub before : t.places.queue + tail ≤ t.first
+  pub firsts : t.first + t.places.nodes ≤ t.last
+  pub lasts : t.last + t.places.nodes ≤ length w
+  pub floats : t.places.nodes + t.places.nodes ≤ length wf
+  pub queued : (i : ℕ) → i < tail → slice_index w (t.places.queue + i) < t.places.nodes
 
 -- the nodes at the first `tail` places of the queue have no predecessor entry, and delta +0.0, and all else is as it was
-pub record Released (n tail queue first last : ℕ) (w : List ℕ) (wf : List Float) (w' : List ℕ) (wf' : List Float) : Type 0 where
+pub record Released (t : Tracks) (tail : ℕ) (w : List ℕ) (wf : List Float) (w' : List ℕ) (wf' : List Float) : Type 0 where
   pub long : length w' ≡ length w
   pub long_floats : length wf' ≡ length wf
-  pub ends : (i : ℕ) → i < tail → slice_index w' (last + slice_index w (queue + i)) ≡ slice_index w (first + slice_index w (queue + i))
-  pub deltas : (i : ℕ) → i < tail → slice_index_or wf' (n + slice_index w (queue + i)) nan ≡ zero_f
-  pub kept : (k : ℕ) → ((i : ℕ) → i < tail → k ≢ last + slice_index w (queue + i)) → slice_index w' k ≡ slice_index w k
-  pub kept_floats : (k : ℕ) → ((i : ℕ) → i < tail → k ≢ n + slice_index w (queue + i)) → slice_index_or wf' k nan ≡ slice_index_or wf k nan
+  pub ends : (i : ℕ) → i < tail → slice_index w' (t.last + slice_index w (t.places.queue + i)) ≡ slice_index w (t.first + slice_index w (t.places.queue + i))
+  pub deltas : (i : ℕ) → i < tail → slice_index_or wf' (t.places.nodes + slice_index w (t.places.queue + i)) nan ≡ zero_f
+  pub kept : (k : ℕ) → ((i : ℕ) → i < tail → k ≢ t.last + slice_index w (t.places.queue + i)) → slice_index w' k ≡ slice_index w k
+  pub kept_floats : (k : ℕ) → ((i : ℕ) → i < tail → k ≢ t.places.nodes + slice_index w (t.places.queue + i)) → slice_index_or wf' k nan ≡ slice_index_or wf k nan

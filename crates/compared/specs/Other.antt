@@ -1,24 +1,13 @@
 -- What a call says and leaves, held to its record. Definitions only.
 use Rattle.std.specs.Prelude.{Bool, true, false, cond, not, ◌||◌, ◌&&◌, List, [], ◌∷◌, ℕ, eqb, ltb, take, replicate, Float}
 use Rattle.std.specs.Float.{binary64}
-use Rattle.std.specs.Float.Ieee.{of_bits, to_bits}
+use Rattle.std.specs.Float.Ieee.{to_bits}
 use Rattle.graph.specs.declared.Fronts.{Fronts}
 use Rattle.graph.specs.Fronts.{usual_fronts, no_fronts}
 use Rattle.words.specs.declared.Places.{Places}
 use Rattle.words.specs.Words.{word_at, results_at}
 use Rattle.lent.specs.declared.Left.{Left}
-
--- What stood in the slices of 32 bits before the call.
-abbrev pub old32 : ℕ
-old32 = 0xa5a5a5a5
-
--- In those of 64 bits.
-abbrev pub old64 : ℕ
-old64 = 0xa5a5a5a5a5a5a5a5
-
--- In those of floats.
-abbrev pub old_f : Float
-old_f = of_bits binary64 0xc0fe240c9fbe76c9
+use Rattle.lent.specs.Slots.{old32, old64, old_f}
 
 -- Whether a slice, each slot read as a number, is not these numbers and then the old one up to its end.
 unfoldable pub is_other : {A : Type 0} → (A → ℕ) → ℕ → List A → List ℕ → Bool
@@ -72,12 +61,12 @@ record_front ws p edges = used_front (word_at ws 0 0) (word_at ws p.said 0) (wor
 -- Whether a result or the workspace is another.
 unfoldable pub leaves_other : List ℕ → Places → ℕ → Left → Bool
 leaves_other ws p edges l =
-    other_counts ws p l.narrow l.wide || (other_scores ws p l.floats l.back || other_work (record_front ws p edges) l.w32 l.w64 l.wf)
+    other_counts ws p l.slots.narrow l.slots.wide || (other_scores ws p l.slots.floats l.slots.back || other_work (record_front ws p edges) l.slots.w32 l.slots.w64 l.slots.wf)
 
 -- Whether the answer or a report is another.
 unfoldable pub says_other : List ℕ → Places → Left → Bool
 says_other ws p l =
-    not (eqb l.answer (word_at ws p.said 0)) || (not (eqb l.settled (word_at ws p.said 1)) || (not (eqb l.rounds (word_at ws p.said 2)) || not (eqb l.elected (word_at ws p.said 3))))
+    not (eqb l.said.answer (word_at ws p.said 0)) || (not (eqb l.said.settled (word_at ws p.said 1)) || (not (eqb l.said.rounds (word_at ws p.said 2)) || not (eqb l.said.elected (word_at ws p.said 3))))
 
 -- Whether something said or left is not what the record has.
 unfoldable pub finds_other : List ℕ → Places → ℕ → Left → Bool

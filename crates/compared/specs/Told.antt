@@ -7,4 +7,4 @@ use Rattle.lent.specs.declared.Left.{Left}
 -- The answer and the reports are the record's.
 abbrev pub Told : List ℕ → Places → Left → Type 0
 Told ws p l =
-    (l.answer ≡ word_at ws p.said 0) × (l.settled ≡ word_at ws p.said 1) × (l.rounds ≡ word_at ws p.said 2) × (l.elected ≡ word_at ws p.said 3)
+    (l.said.answer ≡ word_at ws p.said 0) × (l.said.settled ≡ word_at ws p.said 1) × (l.said.rounds ≡ word_at ws p.said 2) × (l.said.elected ≡ word_at ws p.said 3)

@@ -1,138 +1,177 @@
 // What a call says and leaves, held to its record.
 #![tactic(auto)]
 
-ghost use Rattle.std.specs.Prelude.{◌≡◌, get_or};
+ghost use Rattle.std.specs.Prelude.{◌≡◌, ℕ, get_or};
+ghost use Rattle.std.specs.Float.{binary64};
+ghost use Rattle.std.specs.Float.Ieee.{to_bits};
 ghost use Rattle.graph.specs.Fronts.{no_fronts};
-ghost use Rattle.compared.specs.Other.{is_other32, is_other64, is_other_f, other_counts, other_scores, other_work, uses_none, used_front, record_front, leaves_other, says_other, finds_other};
+ghost use Rattle.lent.specs.Slots.{old32, old64, old_f};
+ghost use Rattle.compared.specs.Other.{is_other, other_counts, other_scores, other_work, uses_none, used_front, record_front, leaves_other, says_other, finds_other};
 
 use answers::Settings;
 use graph::Fronts;
-use lent::{FLOATS, Left, NARROW, OLD32, OLD64, OLDF, RESULTS, WIDE};
-use words::Places;
+use lent::{Left, NARROW, OLD32, OLD64, OLDF, Slots};
+use words::Record;
+
+// What can stand in a slot.
+trait Slot: Copy {
+    // the word that a value stands for
+    ghost read: { Self → ℕ };
+
+    // the word of what stood in each slot before a call
+    ghost before: { ℕ };
+
+    fn word(self) -> u64
+        ensures { result ≡ read self };
+
+    fn word_before() -> u64
+        ensures { result ≡ before };
+}
+
+impl Slot for u32 {
+    ghost read = { λ x. x };
+
+    ghost before = { old32 };
+
+    fn word(self) -> u64 {
+        u64::from(self)
+    }
+
+    fn word_before() -> u64 {
+        u64::from(OLD32)
+    }
+}
+
+impl Slot for u64 {
+    ghost read = { λ x. x };
+
+    ghost before = { old64 };
+
+    fn word(self) -> u64 {
+        self
+    }
+
+    fn word_before() -> u64 {
+        OLD64
+    }
+}
+
+// By their bits; one NaN is as good as another.
+impl Slot for f64 {
+    ghost read = { to_bits binary64 };
+
+    ghost before = { to_bits binary64 old_f };
+
+    fn word(self) -> u64 {
+        text::bits_of(self)
+    }
+
+    fn word_before() -> u64 {
+        text::bits_of(OLDF)
+    }
+}
 
 // Whether something said or left is not what the record has.
-pub fn finds_other(words: &[u64], p: Places, edges: usize, left: Left) -> bool
-    ensures { result ≡ finds_other words.now p edges left }
+#[tactic(auto, unfolding(crate::specs::Other::finds_other))]
+pub fn finds_other(asked: Record<'_>, edges: usize, left: &Left) -> bool
+    ensures { result ≡ finds_other asked.entry.words.now asked.entry.parts edges left.now }
 {
-    if leaves_other(words, p, edges, left) {
-        return true;
-    }
-    says_other(words, p, left)
+    leaves_other(asked, edges, left) || says_other(asked, left)
 }
 
 // Whether a result or the workspace is another.
-fn leaves_other(words: &[u64], p: Places, edges: usize, left: Left) -> bool
-    ensures { result ≡ leaves_other words.now p edges left }
+#[tactic(auto, unfolding(crate::specs::Other::leaves_other))]
+fn leaves_other(asked: Record<'_>, edges: usize, left: &Left) -> bool
+    ensures { result ≡ leaves_other asked.entry.words.now asked.entry.parts edges left.now }
 {
-    let narrow = left.narrow;
-    let wide = left.wide;
-    if other_counts(words, p, narrow, wide) {
-        return true;
-    }
-    let floats = left.floats;
-    let back = left.back;
-    if other_scores(words, p, floats, back) {
-        return true;
-    }
-    let w32 = left.w32;
-    let w64 = left.w64;
-    let wf = left.wf;
-    other_work(used_by(words, p, edges), w32, w64, wf)
+    let Slots {
+        narrow,
+        wide,
+        floats,
+        back,
+        w32,
+        w64,
+        wf,
+    } = &left.slots;
+    other_counts(asked, narrow, wide)
+        || other_scores(asked, floats, back)
+        || other_work(used_by(asked, edges), w32, w64, wf)
 }
 
 // Whether the answer or a report is another.
-fn says_other(words: &[u64], p: Places, left: Left) -> bool
-    ensures { result ≡ says_other words.now p left }
+#[tactic(auto, unfolding(crate::specs::Other::says_other))]
+fn says_other(asked: Record<'_>, left: &Left) -> bool
+    ensures { result ≡ says_other asked.entry.words.now asked.entry.parts left.now }
 {
-    let place = p.said;
-    if left.answer != words::word(words, place, 0) {
-        return true;
-    }
-    if left.settled != words::word(words, place, 1) {
-        return true;
-    }
-    if left.rounds != words::word(words, place, 2) {
-        return true;
-    }
-    if left.elected != words::word(words, place, 3) {
-        return true;
-    }
-    false
+    let Record { words, parts } = asked;
+    left.said.answer != words::word(words, parts.said, 0)
+        || left.said.settled != words::word(words, parts.said, 1)
+        || left.said.rounds != words::word(words, parts.said, 2)
+        || left.said.elected != words::word(words, parts.said, 3)
 }
 
 // Whether a slice of nodes, distances or counts is not the record's results and then what it was.
-fn other_counts(words: &[u64], p: Places, narrow: [u32; RESULTS], wide: [u64; RESULTS]) -> bool
-    ensures { result ≡ other_counts words.now p narrow wide }
+#[tactic(auto, unfolding(crate::specs::Other::other_counts))]
+fn other_counts(asked: Record<'_>, narrow: &[u32], wide: &[u64]) -> bool
+    ensures { result ≡ other_counts asked.entry.words.now asked.entry.parts narrow.now wide.now }
 {
-    if other32(&narrow, words::results(words, p.narrow)) {
-        return true;
-    }
-    other64(&wide, words::results(words, p.wide))
+    let Record { words, parts } = asked;
+    is_other(narrow, words::results(words, parts.narrow))
+        || is_other(wide, words::results(words, parts.wide))
 }
 
 // The same of a slice of scores.
-fn other_scores(words: &[u64], p: Places, floats: [f64; RESULTS], back: [f64; RESULTS]) -> bool
-    ensures { result ≡ other_scores words.now p floats back }
+#[tactic(auto, unfolding(crate::specs::Other::other_scores))]
+fn other_scores(asked: Record<'_>, floats: &[f64], back: &[f64]) -> bool
+    ensures { result ≡ other_scores asked.entry.words.now asked.entry.parts floats.now back.now }
 {
-    if otherf(&floats, words::results(words, p.floats)) {
-        return true;
-    }
-    otherf(&back, words::results(words, p.back))
+    let Record { words, parts } = asked;
+    is_other(floats, words::results(words, parts.floats))
+        || is_other(back, words::results(words, parts.back))
 }
 
 // Whether the workspace is not zero in its used front and then what it was.
-fn other_work(front: Fronts, w32: [u32; NARROW], w64: [u64; WIDE], wf: [f64; FLOATS]) -> bool
-    ensures { result ≡ other_work front w32 w64 wf }
+#[tactic(auto, unfolding(crate::specs::Other::other_work))]
+fn other_work(front: Fronts, w32: &[u32], w64: &[u64], wf: &[f64]) -> bool
+    ensures { result ≡ other_work front w32.now w64.now wf.now }
 {
     let zeros = [0u64; NARROW];
-    if other32(&w32, words::front(&zeros, front.narrow)) {
-        return true;
-    }
-    if other64(&w64, words::front(&zeros, front.wide)) {
-        return true;
-    }
-    otherf(&wf, words::front(&zeros, front.floats))
+    is_other(w32, words::front(&zeros, front.narrow))
+        || is_other(w64, words::front(&zeros, front.wide))
+        || is_other(wf, words::front(&zeros, front.floats))
 }
 
 // The front that the record's call uses.
-fn used_by(words: &[u64], p: Places, edges: usize) -> Fronts
-    ensures { result ≡ record_front words.now p edges }
+fn used_by(asked: Record<'_>, edges: usize) -> Fronts
+    ensures { result ≡ record_front asked.entry.words.now asked.entry.parts edges }
 {
+    let Record { words, parts } = asked;
     used(
         words::word(words, 0, 0),
-        words::word(words, p.said, 0),
+        words::word(words, parts.said, 0),
         words::size(words, 1, 0),
         edges,
     )
 }
 
 // The front that a call with this answer uses.
+#[tactic(auto, unfolding(crate::specs::Other::used_front))]
 fn used(call: u64, answer: u64, nodes: usize, edges: usize) -> Fronts
     ensures { result ≡ used_front call answer nodes edges }
 {
-    if uses_none(call, answer) {
-        return none();
+    if uses_none(call, answer) || Settings::NODES < nodes || Settings::EDGES < edges {
+        none()
+    } else {
+        graph::usual_fronts(nodes, edges)
     }
-    if Settings::NODES < nodes {
-        return none();
-    }
-    if Settings::EDGES < edges {
-        return none();
-    }
-    graph::usual_fronts(nodes, edges)
 }
 
 // The degrees use no workspace, and the refusals 1 to 9 come before it is used.
+#[tactic(auto, unfolding(crate::specs::Other::uses_none))]
 fn uses_none(call: u64, answer: u64) -> bool
     ensures { result ≡ uses_none call answer }
 {
-    if call < 3 {
-        return true;
-    }
-    if answer == 0 {
-        return false;
-    }
-    answer < 10
+    call < 3 || (answer != 0 && answer < 10)
 }
 
 fn none() -> Fronts
@@ -145,69 +184,25 @@ fn none() -> Fronts
     }
 }
 
-// Whether a slice does not begin with these numbers, or was changed after them.
-fn other32(slice: &[u32], first: &[u64]) -> bool
-    ensures { result ≡ is_other32 slice.now first.now }
+// Whether slots do not begin with these numbers, or were changed after them.
+fn is_other<T: Slot>(slots: &[T], first: &[u64]) -> bool
+    ensures { result ≡ is_other T.read T.before slots.now first.now }
 {
-    if slice.len() < first.len() {
+    if slots.len() < first.len() {
         return true;
     }
-    let mut i = 0;
-    while i < slice.len() {
-        if widened(slice[i]) != wanted(first, i, OLD32 as u64) {
+    for (i, x) in slots.iter().enumerate() {
+        let found = x.word();
+        if found != wanted(first, i, T::word_before()) {
             return true;
         }
-        i += 1;
     }
     false
-}
-
-fn other64(slice: &[u64], first: &[u64]) -> bool
-    ensures { result ≡ is_other64 slice.now first.now }
-{
-    if slice.len() < first.len() {
-        return true;
-    }
-    let mut i = 0;
-    while i < slice.len() {
-        if slice[i] != wanted(first, i, OLD64) {
-            return true;
-        }
-        i += 1;
-    }
-    false
-}
-
-// By their bits; one NaN is as good as another.
-fn otherf(slice: &[f64], first: &[u64]) -> bool
-    ensures { result ≡ is_other_f slice.now first.now }
-{
-    if slice.len() < first.len() {
-        return true;
-    }
-    let old = text::bits_of(OLDF);
-    let mut i = 0;
-    while i < slice.len() {
-        if text::bits_of(slice[i]) != wanted(first, i, old) {
-            return true;
-        }
-        i += 1;
-    }
-    false
-}
-
-fn widened(x: u32) -> u64
-    ensures { result ≡ x }
-{
-    x as u64
 }
 
 // The number that belongs into a slot.
 fn wanted(first: &[u64], i: usize, old: u64) -> u64
     ensures { result ≡ get_or first.now i old }
 {
-    if i < first.len() {
-        return first[i];
-    }
-    old
+    first.get(i).copied().unwrap_or(old)
 }

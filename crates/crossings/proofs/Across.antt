@@ -19,9 +19,10 @@ use Rattle.brandes.specs.Steps.{held_predecessors}
 use Rattle.predecessors.specs.Tracks.{Traced}
 use Rattle.predecessors.proofs.Predecessors.{by_mem, entered_mem}
 use Rattle.brandes.proofs.Starts.{order_reached, order_in, entries_in, held_is, queue_is, entries_held, accumulate_pre}
+use Rattle.pair_search.specs.declared.PairTracks.{PairTracks}
 use Rattle.pair_search.specs.Pairs.{HeldPairs}
 use Rattle.crossings.specs.Totals.{Totals, leave_by}
-use Rattle.crossings.specs.Crossings.{left_across, AcrossPre}
+use Rattle.crossings.specs.Crossings.{held_pairs, left_across, AcrossPre}
 use Rattle.crossings.proofs.Crossing.{totals, TotalsIn, totals_held, left_off, left_long}
 
 -- ---- a predecessor entry of w is a node with an entry w
@@ -51,54 +52,54 @@ entered_lead g d w (v ∷ vs) y m = go (Memᴰ.append_cases (entered_by d w v (e
     go (inl k) ih = subst (λ (u : ℕ). Memᴰ w (entries g u)) (sym (by_mem d w v (entries g v) y k)) (by_lead d w v (entries g v) y k)
     go (inr k) ih = ih k
 
-module _ (number : ℕ → ℕ → ℕ) (pairs : ℕ) {g : Graph} {limit s : ℕ} {w c : List ℕ} {D Q first last base tail : ℕ} (R : Traced g limit s w c D Q first last base tail)
-    (H : HeldPairs g.nodes number w first pairs (predecessors g s)) (before : pairs ≤ base) where
+module _ (number : ℕ → ℕ → ℕ) (pt : PairTracks) {g : Graph} {s : ℕ} {w c : List ℕ} {tail : ℕ} (same : pt.tracks.places.nodes ≡ g.nodes) (R : Traced g pt.tracks s w c tail)
+    (H : HeldPairs g.nodes pt number w (predecessors g s)) (before : pt.pairs ≤ pt.tracks.base) where
   leads : (x : ℕ) → x < g.nodes → (y : ℕ) → Memᴰ y (predecessors g s x) → (y < g.nodes) × Memᴰ x (entries g y)
   leads x h y m = (entries_in R x h y m, entered_lead g (dist g s) x (order g s) y m)
 
   -- ---- what the accumulation asks
 
   -- the pair beside a predecessor entry of x has a number with a place
-  beside_in : (t : ℕ) {len : ℕ} → ((a b : ℕ) → a < g.nodes → Memᴰ b (entries g a) → t + number a b < len) → (x k : ℕ) → x < g.nodes → get_or w (first + x) 0 ≤ k → k < get_or w (last + x) 0 → t + get_or w (pairs + k) 0 < len
+  beside_in : (t : ℕ) {len : ℕ} → ((a b : ℕ) → a < g.nodes → Memᴰ b (entries g a) → t + number a b < len) → (x k : ℕ) → x < g.nodes → get_or w (pt.tracks.first + x) 0 ≤ k → k < get_or w (pt.tracks.last + x) 0 → t + get_or w (pt.pairs + k) 0 < len
   beside_in t {len} inside x k h a b =
-      let i : k - get_or w (first + x) 0 < length (predecessors g s x) = omega (arith, R.holding.filled x h) in
-      let e : get_or w (first + x) 0 + (k - get_or w (first + x) 0) ≡ k = omega arith in
-      let p = leads x h (get_or (predecessors g s x) (k - get_or w (first + x) 0) 0) (get_or_mem (predecessors g s x) (k - get_or w (first + x) 0) i) in
-      subst (λ (y : ℕ). t + y < len) (sym (H x (k - get_or w (first + x) 0) h i) ∙ ap (λ (z : ℕ). get_or w (pairs + z) 0) e) (inside _ x p.0 p.1)
+      let i : k - get_or w (pt.tracks.first + x) 0 < length (predecessors g s x) = omega (arith, R.holding.filled x h) in
+      let e : get_or w (pt.tracks.first + x) 0 + (k - get_or w (pt.tracks.first + x) 0) ≡ k = omega arith in
+      let p = leads x h (get_or (predecessors g s x) (k - get_or w (pt.tracks.first + x) 0) 0) (get_or_mem (predecessors g s x) (k - get_or w (pt.tracks.first + x) 0) i) in
+      subst (λ (y : ℕ). t + y < len) (sym (H x (k - get_or w (pt.tracks.first + x) 0) h i) ∙ ap (λ (z : ℕ). get_or w (pt.pairs + z) 0) e) (inside _ x p.0 p.1)
 
-  pub across_pre : (t : ℕ) {wf : List Float} → g.nodes + g.nodes ≤ t → g.nodes + g.nodes ≤ length wf → ((a b : ℕ) → a < g.nodes → Memᴰ b (entries g a) → t + number a b < length wf)
-      → AcrossPre g.nodes t Q first last pairs base tail w c wf
-  across_pre t {wf} behind room inside =
-      let A = accumulate_pre R {wf = wf} room in
+  pub across_pre : {wf : List Float} → g.nodes + g.nodes ≤ pt.table.totals → g.nodes + g.nodes ≤ length wf → ((a b : ℕ) → a < g.nodes → Memᴰ b (entries g a) → pt.table.totals + number a b < length wf)
+      → AcrossPre pt tail w c wf
+  across_pre {wf} behind room inside =
+      let A = accumulate_pre R same {wf = wf} room in
       record {
-        held = record { kept = A.kept; before = before; deltas = behind; totals = λ x k h a b. beside_in t inside x k h a b };
+        held = record { kept = A.kept; before = before; deltas = omega (arith, same); totals = λ x k h a b. beside_in pt.table.totals inside x k (omega (arith, same)) a b };
         room = A.room;
         queued = A.queued;
         counts = A.counts;
-        floats = room;
+        floats = A.floats;
       }
 
   -- ---- what it comes to
 
-  pairs_are : (x : ℕ) → x < g.nodes → held_predecessors first last pairs w x ≡ map (λ v. number v x) (predecessors g s x)
+  pairs_are : (x : ℕ) → x < g.nodes → held_pairs pt w x ≡ map (λ v. number v x) (predecessors g s x)
   pairs_are x h =
-      let size : get_or w (last + x) 0 - get_or w (first + x) 0 ≡ length (predecessors g s x) = omega (arith, R.holding.filled x h) in
-      let room : pairs + get_or w (first + x) 0 + (get_or w (last + x) 0 - get_or w (first + x) 0) ≤ length w = omega (arith, before, R.holding.filled x h, (entries_held R).inside x h) in
-      let len = part_long w (pairs + get_or w (first + x) 0) (get_or w (last + x) 0 - get_or w (first + x) 0) room ∙ size in
-      ext_get_or 0 (held_predecessors first last pairs w x) (map (λ v. number v x) (predecessors g s x)) (len ∙ sym (length-map (predecessors g s x) (λ v. number v x)))
+      let size : get_or w (pt.tracks.last + x) 0 - get_or w (pt.tracks.first + x) 0 ≡ length (predecessors g s x) = omega (arith, R.holding.filled x h) in
+      let room : pt.pairs + get_or w (pt.tracks.first + x) 0 + (get_or w (pt.tracks.last + x) 0 - get_or w (pt.tracks.first + x) 0) ≤ length w = omega (arith, before, R.holding.filled x h, (entries_held R same).inside x (omega (arith, same))) in
+      let len = part_long w (pt.pairs + get_or w (pt.tracks.first + x) 0) (get_or w (pt.tracks.last + x) 0 - get_or w (pt.tracks.first + x) 0) room ∙ size in
+      ext_get_or 0 (held_pairs pt w x) (map (λ v. number v x) (predecessors g s x)) (len ∙ sym (length-map (predecessors g s x) (λ v. number v x)))
       (λ k l.
-      let e : pairs + get_or w (first + x) 0 + k ≡ pairs + (get_or w (first + x) 0 + k) = omega arith in
+      let e : pt.pairs + get_or w (pt.tracks.first + x) 0 + k ≡ pt.pairs + (get_or w (pt.tracks.first + x) 0 + k) = omega arith in
       let m : k < length (predecessors g s x) = omega (arith, l, len) in
-      part_at w (pairs + get_or w (first + x) 0) (get_or w (last + x) 0 - get_or w (first + x) 0) 0 k (omega (arith, m, size))
+      part_at w (pt.pairs + get_or w (pt.tracks.first + x) 0) (get_or w (pt.tracks.last + x) 0 - get_or w (pt.tracks.first + x) 0) 0 k (omega (arith, m, size))
       ∙ ap (λ (i : ℕ). get_or w i 0) e
       ∙ H x k h m
       ∙ sym (get_or-map (λ v. number v x) (predecessors g s x) k 0)
       ∙ get_d_any (map (λ v. number v x) (predecessors g s x)) k (number 0 x) 0 (omega (arith, m, length-map (predecessors g s x) (λ v. number v x))))
 
   module _ (t : ℕ) (behind : g.nodes + g.nodes ≤ t) (wf wf' : List Float)
-      (e : wf' ≡ foldr (left_across g.nodes t c (held_predecessors first last base w) (held_predecessors first last pairs w)) wf (part w Q tail)) where
-    whole : wf' ≡ foldr (left_across g.nodes t c (held_predecessors first last base w) (held_predecessors first last pairs w)) wf (order g s)
-    whole = e ∙ ap (foldr (left_across g.nodes t c (held_predecessors first last base w) (held_predecessors first last pairs w)) wf) (queue_is R)
+      (e : wf' ≡ foldr (left_across g.nodes t c (held_predecessors pt.tracks w) (held_pairs pt w)) wf (part w pt.tracks.places.queue tail)) where
+    whole : wf' ≡ foldr (left_across g.nodes t c (held_predecessors pt.tracks w) (held_pairs pt w)) wf (order g s)
+    whole = e ∙ ap (foldr (left_across g.nodes t c (held_predecessors pt.tracks w) (held_pairs pt w)) wf) (queue_is R)
 
     module _ (apart : (v x a b : ℕ) → v < g.nodes → a < g.nodes → Memᴰ x (entries g v) → Memᴰ b (entries g a) → number v x ≡ number a b → (v ≡ a) × (x ≡ b)) where
       -- delta and totals as the definition has them
@@ -106,7 +107,7 @@ module _ (number : ℕ → ℕ → ℕ) (pairs : ℕ) {g : Graph} {limit s : ℕ
           → TotalsIn g.nodes t number (entries g) wf' (foldr (leave_by (λ v. double (count g s v)) (predecessors g s)) x (order g s))
       crossed_totals {x} S =
           subst (λ (f : List Float). TotalsIn g.nodes t number (entries g) f (foldr (leave_by (λ v. double (count g s v)) (predecessors g s)) x (order g s))) (sym whole)
-          (totals_held behind apart c (λ v. double (count g s v)) (λ v h. ap double (R.found.ways v h)) (held_predecessors first last base w) (held_predecessors first last pairs w) (predecessors g s) (held_is R) pairs_are leads (order g s) (order_in R) S)
+          (totals_held behind apart c (λ v. double (count g s v)) (λ v h. ap double (R.found.ways v h)) (held_predecessors pt.tracks w) (held_pairs pt w) (predecessors g s) (held_is R) pairs_are leads (order g s) (order_in R) S)
 
       -- from delta +0.0 at each node
       pub total_is : {total : ℕ → ℕ → Float} → g.nodes + g.nodes ≤ length wf → ((a b : ℕ) → a < g.nodes → Memᴰ b (entries g a) → t + number a b < length wf)
@@ -130,7 +131,7 @@ module _ (number : ℕ → ℕ → ℕ) (pairs : ℕ) {g : Graph} {limit s : ℕ
     off : (j : ℕ) → ((x : ℕ) → Memᴰ x (order g s) → (y : ℕ) → Memᴰ y (predecessors g s x) → (j ≢ g.nodes + y) × (j ≢ t + number y x)) → get_or wf' j nan ≡ get_or wf j nan
     off j h =
         ap (λ (f : List Float). get_or f j nan) whole
-        ∙ left_off g.nodes t c (held_predecessors first last base w) (held_predecessors first last pairs w) j (order g s)
+        ∙ left_off g.nodes t c (held_predecessors pt.tracks w) (held_pairs pt w) j (order g s)
         (λ x m y k. (h x m y (subst (λ (l : List ℕ). Memᴰ y l) (held_is R x (order_in R x m)) k)).0) (λ x m p k. pair x m p (Memᴰ.of_map (λ v. number v x) (predecessors g s x) (subst (λ (l : List ℕ). Memᴰ p l) (pairs_are x (order_in R x m)) k))) wf
       where
         pair : (x : ℕ) → Memᴰ x (order g s) → (p : ℕ) → (a : ℕ) × Memᴰ a (predecessors g s x) × (number a x ≡ p) → j ≢ t + p
@@ -145,5 +146,5 @@ module _ (number : ℕ → ℕ → ℕ) (pairs : ℕ) {g : Graph} {limit s : ℕ
     -- nothing changes but deltas and totals
     pub crossed_frame : (bound : ℕ) → ((a b : ℕ) → a < g.nodes → Memᴰ b (entries g a) → number a b < bound) → Frame2 wf g.nodes g.nodes t bound wf'
     crossed_frame bound low =
-        frame2_by nan (ap length whole ∙ left_long g.nodes t c (held_predecessors first last base w) (held_predecessors first last pairs w) (order g s) wf)
+        frame2_by nan (ap length whole ∙ left_long g.nodes t c (held_predecessors pt.tracks w) (held_pairs pt w) (order g s) wf)
         (λ j a b. off j (λ x m y k. let l = leads x (order_in R x m) y k in (λ p. a (omega arith) (omega (arith, l.0)), λ p. b (omega arith) (omega (arith, low y x l.0 l.1)))))

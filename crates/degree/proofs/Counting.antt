@@ -10,7 +10,7 @@ use borrow.Author.Tests.{eqb-true, eqb-false}
 use lib.Dec.{eqb}
 use lib.IntN.{pos}
 use lib.ListN.{length, get_or, take}
-use lib.Seq.{take-suc, take-length}
+use lib.Seq.{take-suc}
 use lib.Ieee.{Float, binary64, nan, add, of_int}
 use Rattle.regions.specs.Doubles.{one}
 use Rattle.regions.specs.Region.{Front, zero_f, cleared}
@@ -26,10 +26,6 @@ use Rattle.degree.proofs.Exact.{one_more}
 abbrev pub count_in : ℕ → List ℕ → ℕ
 count_in v [] = 0
 count_in v (e ∷ es) = one_if (eqb e v) + count_in v es
-
-pub count_in_few : (v : ℕ) (es : List ℕ) → count_in v es ≤ length es
-count_in_few v [] = omega arith
-count_in_few v (e ∷ es) = ⊎_elim (λ b. rw b (omega (arith, count_in_few v es))) (λ b. rw b (omega (arith, count_in_few v es))) (bool_cases (eqb e v))
 
 -- w is w₀ but for its first n places, which hold the numbers c
 pub record Counts (w₀ : List Float) (n : ℕ) (c : ℕ → ℕ) (w : List Float) : Type 0 where
@@ -145,8 +141,3 @@ both_ends p q k (f ∷ fs) (t ∷ ts) (x ∷ xs) v s =
 
 pub ends_counted : (p q : Bool) (fs ts : List ℕ) (xs : List Float) (v : ℕ) → Sized fs ts xs → end_count p q (edges_from 0 fs ts xs) v ≡ count_in v (cond p fs []) + count_in v (cond q ts [])
 ends_counted p q fs ts xs v s = both_ends p q 0 fs ts xs v s
-
--- all or none of them
-pub counted_part : (p : Bool) (es : List ℕ) (m : ℕ) → m ≡ length es → take (cond p m 0) es ≡ cond p es []
-counted_part true es m e = ap (λ (k : ℕ). take k es) e ∙ take-length es
-counted_part false es m e = refl

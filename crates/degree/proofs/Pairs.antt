@@ -9,10 +9,6 @@ use lib.Ieee.{Float}
 use Rattle.degree.specs.Tally.{plus_one, in_turn, pair_tally, pairs_from, TallyPre}
 use Rattle.degree.proofs.Counting.{in_turn_then}
 
--- fewer ends, as many scores
-pub tally_part : {es : List ℕ} {many : ℕ} {w w' : List Float} → TallyPre es many w → (k : ℕ) → k ≤ many → length w' ≡ length w → TallyPre es k w'
-tally_part pre k l e = record { some = omega (arith, pre.some); inside = λ i h. omega (arith, pre.inside i (omega arith)) }
-
 pub pairs_none : (fs ts : List ℕ) (w : List Float) → w ≡ pair_tally fs ts 0 w
 unfolding pair_tally in_turn
 pairs_none fs ts w = refl
@@ -82,21 +78,3 @@ module _ (fs ts : List ℕ) where
       let s2 = from_more i (i + 1) (i + 2) w w1 w2 (omega arith) (omega arith) (omega arith) (omega arith) s1 (both_at (i + 1) f2 t2 w1 w2 p2 q2 e2) in
       let s3 = from_more i (i + 2) (i + 3) w w2 w3 (omega arith) (omega arith) (omega arith) (omega arith) s2 (both_at (i + 2) f3 t3 w2 w3 p3 q3 e3) in
       from_more i (i + 3) (i + 4) w w3 w4 (omega arith) (omega arith) (omega arith) (omega arith) s3 (both_at (i + 3) f4 t4 w3 w4 p4 q4 e4)
-
--- ---- the ends of four edges
-pub record Ends (es : List ℕ) (i : ℕ) (w : List Float) : Type 0 where
-  pub some : i + 4 ≤ length es
-  pub first : get_or es i 0 < length w
-  pub second : get_or es (i + 1) 0 < length w
-  pub third : get_or es (i + 2) 0 < length w
-  pub fourth : get_or es (i + 3) 0 < length w
-
-pub ends : (es : List ℕ) (i : ℕ) (w : List Float) → TallyPre es (i + 4) w → Ends es i w
-ends es i w pre =
-    record {
-      some = pre.some;
-      first = pre.inside i (omega arith);
-      second = pre.inside (i + 1) (omega arith);
-      third = pre.inside (i + 2) (omega arith);
-      fourth = pre.inside (i + 3) (omega arith);
-    }

@@ -59,4 +59,4 @@ module _ (froms tos : Bool) (g : Given (List Float)) where
       by false q e v l =
           subst (λ (x : Float). HasValue x false (end_count froms tos (edges_in g) v) 1)
           (sym (over_at (end_scores froms tos g) g.results nan v (omega (arith, list_long (end_score froms tos (edges_in g)) g.nodes)) ∙ list_at_lem (end_score froms tos (edges_in g)) g.nodes nan v l))
-          (round_whole binary64 false (end_count froms tos (edges_in g) v) (few (passed (tests g) refl refl q) v))
+          (round_whole binary64 false (end_count froms tos (edges_in g) v) (few (passed (tests g) (rw q refl)) v))

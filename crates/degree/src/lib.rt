@@ -2,119 +2,75 @@
 // Each call refuses SIZE, NODE, ROOM, in this order.
 #![tactic(auto)]
 
-ghost use Rattle.std.specs.Prelude.{◌≡◌, cond, false, true, [], ◌+◌, ◌≤◌, ◌<◌, ltb, length, get_or};
-ghost use Rattle.answers.specs.Answers.{said_plain};
-ghost use Rattle.graph.specs.Given.{given};
+ghost use Rattle.std.specs.Prelude.{◌≡◌, false, true, [], ◌+◌, ◌≤◌, ◌<◌, ltb, length, get_or};
+ghost use Rattle.answers.specs.Answers.{said_by, refused_if};
+ghost use Rattle.graph.specs.Given.{lent};
 ghost use Rattle.graph.specs.Left.{left};
 ghost use Rattle.graph.specs.Refusals.{first_refusal, ends_tests};
 ghost use Rattle.degree.specs.Degree.{ends_outcome, degree_outcome, in_degree_outcome, out_degree_outcome};
 ghost use Rattle.degree.specs.Tally.{plus_one, tally, pair_tally, pairs_from, TallyPre};
 
-use answers::{Answer, Plain, Refusal};
+use answers::{Answer, Refusal};
+use graph::Graph;
 
 // Both ends of every edge: a self-loop adds two.
-pub fn degree(
-    nodes: usize,
-    directed: bool,
-    from: &[u32],
-    to: &[u32],
-    weight: &[f64],
-    scores: &mut [f64],
-) -> Plain
-    ensures { left (said_plain result) scores.new [] [] [] ≡ degree_outcome (given nodes directed from.now to.now weight.now scores.old [] [] []) }
+pub fn degree(graph: Graph<'_>, scores: &mut [f64]) -> Result<(), Refusal>
+    ensures { left (said_by result) scores.new [] [] [] ≡ degree_outcome (lent graph.entry scores.old [] [] []) }
 {
-    count_ends(nodes, directed, true, true, from, to, weight, scores)
+    count_ends(graph, true, true, scores)
 }
 
 // The edges that enter a node; undirected, both ends.
-pub fn in_degree(
-    nodes: usize,
-    directed: bool,
-    from: &[u32],
-    to: &[u32],
-    weight: &[f64],
-    scores: &mut [f64],
-) -> Plain
-    ensures { left (said_plain result) scores.new [] [] [] ≡ in_degree_outcome (given nodes directed from.now to.now weight.now scores.old [] [] []) }
+pub fn in_degree(graph: Graph<'_>, scores: &mut [f64]) -> Result<(), Refusal>
+    ensures { left (said_by result) scores.new [] [] [] ≡ in_degree_outcome (lent graph.entry scores.old [] [] []) }
 {
-    count_ends(nodes, directed, !directed, true, from, to, weight, scores)
+    count_ends(graph, !graph.directed, true, scores)
 }
 
 // The edges that leave a node; undirected, both ends.
-pub fn out_degree(
-    nodes: usize,
-    directed: bool,
-    from: &[u32],
-    to: &[u32],
-    weight: &[f64],
-    scores: &mut [f64],
-) -> Plain
-    ensures { left (said_plain result) scores.new [] [] [] ≡ out_degree_outcome (given nodes directed from.now to.now weight.now scores.old [] [] []) }
+pub fn out_degree(graph: Graph<'_>, scores: &mut [f64]) -> Result<(), Refusal>
+    ensures { left (said_by result) scores.new [] [] [] ≡ out_degree_outcome (lent graph.entry scores.old [] [] []) }
 {
-    count_ends(nodes, directed, true, !directed, from, to, weight, scores)
+    count_ends(graph, true, !graph.directed, scores)
 }
 
 // `froms` and `tos` say which ends count. If both do, one walk adds both ends of each edge.
-fn count_ends(
-    nodes: usize,
-    directed: bool,
-    froms: bool,
-    tos: bool,
-    from: &[u32],
-    to: &[u32],
-    weight: &[f64],
-    scores: &mut [f64],
-) -> Plain
-    ensures { left (said_plain result) scores.new [] [] [] ≡ ends_outcome froms tos (given nodes directed from.now to.now weight.now scores.old [] [] []) }
+fn count_ends(graph: Graph<'_>, froms: bool, tos: bool, scores: &mut [f64]) -> Result<(), Refusal>
+    ensures { left (said_by result) scores.new [] [] [] ≡ ends_outcome froms tos (lent graph.entry scores.old [] [] []) }
 {
-    let answer = refusal(nodes, from, to, weight, scores.len());
-    if answers::refuses(answer) {
-        return Plain::Refused(Refusal { answer });
+    refusal(graph, scores.len())?;
+    regions::wipe(scores, graph.nodes);
+    if froms && tos {
+        add_pairs(graph.from, graph.to, scores);
+    } else if froms {
+        add_ends(graph.from, scores);
+    } else if tos {
+        add_ends(graph.to, scores);
     }
-    let edges = from.len();
-    let pairs = counted(froms, counted(tos, edges));
-    regions::wipef(scores, nodes);
-    add_pairs(from, to, pairs, scores);
-    add_ends(from, counted(froms, edges) - pairs, scores);
-    add_ends(to, counted(tos, edges) - pairs, scores);
-    Plain::Done
+    Ok(())
 }
 
-// SIZE, NODE or ROOM, whichever comes first, and DONE if nothing refuses.
-fn refusal(nodes: usize, from: &[u32], to: &[u32], weight: &[f64], room: usize) -> Answer
-    ensures { result ≡ first_refusal (ends_tests nodes from.now to.now weight.now false false (ltb room nodes)) }
+// SIZE, NODE or ROOM, whichever comes first.
+fn refusal(graph: Graph<'_>, room: usize) -> Result<(), Refusal>
+    ensures { result ≡ refused_if (first_refusal (ends_tests graph.entry.nodes graph.entry.from.now graph.entry.to.now graph.entry.weight.now false false (ltb room graph.entry.nodes))) }
 {
-    let answer = graph::graph_refusal(nodes, from, to, weight, false, false);
-    if answers::refuses(answer) {
-        return answer;
+    graph::graph_refusal(graph, false, false)?;
+    if room < graph.nodes {
+        return Err(Refusal::from(Answer::Room));
     }
-    if room < nodes {
-        return Answer::Room;
-    }
-    Answer::Done
+    Ok(())
 }
 
-// How many of these ends count: all or none.
-fn counted(count: bool, edges: usize) -> usize
-    ensures { result ≡ cond count edges 0 }
+// Adds one to the scores of both ends of each edge: four edges at a time, then the last few.
+fn add_pairs(from: &[u32], to: &[u32], scores: &mut [f64])
+    requires { TallyPre from.now (length from.now) scores.old × TallyPre to.now (length from.now) scores.old }
+    ensures { scores.new ≡ pair_tally from.now to.now (length from.now) scores.old }
 {
-    if count {
-        return edges;
+    let fours = from.len() / 4;
+    for k in 0..fours {
+        add_four(from, to, 4 * k, scores);
     }
-    0
-}
-
-// Adds one to the scores of both ends of each of the first `many` edges.
-fn add_pairs(from: &[u32], to: &[u32], many: usize, scores: &mut [f64])
-    requires { TallyPre from.now many scores.old × TallyPre to.now many scores.old }
-    ensures { scores.new ≡ pair_tally from.now to.now many scores.old }
-{
-    let mut i = 0;
-    while 4 <= many - i {
-        add_four(from, to, i, scores);
-        i += 4;
-    }
-    add_rest(from, to, i, many, scores);
+    add_rest(from, to, 4 * fours, scores);
 }
 
 // Four edges; their ends are read before the first addition, so that they wait for none.
@@ -137,14 +93,12 @@ fn add_four(from: &[u32], to: &[u32], i: usize, scores: &mut [f64])
 }
 
 // The edges from first on, one a turn.
-fn add_rest(from: &[u32], to: &[u32], first: usize, many: usize, scores: &mut [f64])
-    requires { (first ≤ many) × TallyPre from.now many scores.old × TallyPre to.now many scores.old }
-    ensures { scores.new ≡ pairs_from from.now to.now first many scores.old }
+fn add_rest(from: &[u32], to: &[u32], first: usize, scores: &mut [f64])
+    requires { (first ≤ length from.now) × TallyPre from.now (length from.now) scores.old × TallyPre to.now (length from.now) scores.old }
+    ensures { scores.new ≡ pairs_from from.now to.now first (length from.now) scores.old }
 {
-    let mut i = first;
-    while i < many {
+    for i in first..from.len() {
         add_edge(end_at(from, i), end_at(to, i), scores);
-        i += 1;
     }
 }
 
@@ -161,19 +115,16 @@ fn add_edge(f: usize, t: usize, scores: &mut [f64])
     requires { (f < length scores.old) × (t < length scores.old) }
     ensures { scores.new ≡ plus_one (plus_one scores.old f) t }
 {
-    scores[f] = scores[f] + 1.0;
-    scores[t] = scores[t] + 1.0;
+    scores[f] += 1.0;
+    scores[t] += 1.0;
 }
 
-// Adds one to the score of each of the first `many` ends.
-fn add_ends(ends: &[u32], many: usize, scores: &mut [f64])
-    requires { TallyPre ends.now many scores.old }
-    ensures { scores.new ≡ tally ends.now many scores.old }
+// Adds one to the score of each of the ends.
+fn add_ends(ends: &[u32], scores: &mut [f64])
+    requires { TallyPre ends.now (length ends.now) scores.old }
+    ensures { scores.new ≡ tally ends.now (length ends.now) scores.old }
 {
-    let mut i = 0;
-    while i < many {
-        let v = ends[i] as usize;
-        scores[v] = scores[v] + 1.0;
-        i += 1;
+    for end in ends {
+        scores[*end as usize] += 1.0;
     }
 }

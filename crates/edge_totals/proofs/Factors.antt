@@ -1,33 +1,45 @@
 -- The totals of edge betweenness as they are scaled: times a factor one after the other, or as they are. Assumes nothing.
-use Rattle.std.proofs.Common.{◌≡◌, ℕ, ◌+◌, ◌-◌, ◌*◌, ◌^◌, ◌<◌, ◌≤◌, Bool, true, false, cond, ◌&&◌, ltb, List, length, get_or, set, sym, ap, ◌∙◌, mul-le-mul_right, arith, lt-ltb}
+use Rattle.std.proofs.Common.{◌≡◌, ℕ, ◌+◌, ◌-◌, ◌*◌, ◌<◌, ◌≤◌, Bool, true, false, cond, ◌&&◌, ltb, List, length, get_or, take, drop, length-take, length-drop, sym, ap, ◌∙◌, arith, lt-ltb}
+use mathlib.Core.Logic.{⊎_elim}
+use borrow.Rule.Slice.PartMut.{put_mid}
+use lib.Lanes.{put_chunk}
+use lib.Seq.{get_or-take, get_or-drop}
+use Rattle.std.proofs.lemmas.Simd.{put_chunk_is, length-put_chunk, get_or-put_chunk_below, get_or-put_chunk_at, get_or-put_chunk_above}
 use lib.Ieee.{Float, nan, binary64, mul, div}
 use Rattle.regions.specs.Doubles.{double, one, two}
-use Rattle.regions.proofs.Frames.{frame_none, frame_set, frame_wide, store_more}
+use Rattle.regions.proofs.Cases.{below_or_not}
+use Rattle.regions.proofs.Frames.{frame_none, frame_by}
 use Rattle.graph.specs.Layout.{totals_at}
 use Rattle.crossings.specs.Totals.{scaled_total}
 use Rattle.edge_totals.specs.Writes.{Multiplied, TotalsScaled}
 
--- ---- one float after the other
-pub multiplied_none : (f : List Float) (base : ℕ) (factor : Float) → Multiplied f base 0 factor f
-multiplied_none f base factor = record { frame = frame_none f base 0; at = λ i h. absurd (omega arith) }
+-- ---- the floats of a part, each times the factor
 
-pub multiplied_more : {f f' : List Float} {base i : ℕ} {factor : Float} (x : Float) → Multiplied f base i factor f' → base + i < length f → x ≡ mul binary64 (get_or f' (base + i) nan) factor
-    → Multiplied f base (i + 1) factor (set f' (base + i) x)
-multiplied_more {f} {f'} {base} {i} {factor} x M l e =
-    let p : base + i < length f' = omega (arith, M.frame.long) in
-    let same : get_or f' (base + i) nan ≡ get_or f (base + i) nan = M.frame.rest nan (base + i) (λ a b. omega arith) in
+-- of the part xs the floats before i have been multiplied
+pub record Times (xs : List Float) (factor : Float) (i : ℕ) (ys : List Float) : Type 0 where
+  pub done : (j : ℕ) → j < i → get_or ys j nan ≡ mul binary64 (get_or xs j nan) factor
+  pub rest : (j : ℕ) → i ≤ j → get_or ys j nan ≡ get_or xs j nan
+
+-- the part stands in its place again
+pub part_multiplied : {f ys : List Float} {base len k i : ℕ} {factor : Float} → base + len ≤ length f → k ≡ len → i ≡ len → length ys ≡ length (take k (drop base f)) → Times (take k (drop base f)) factor i ys
+    → Multiplied f base len factor (put_mid base k f ys)
+part_multiplied {f} {ys} {base} {len} {k} {i} {factor} room ek ei long T =
+    let many : length ys ≡ len = long ∙ simp (length-take, length-drop) (omega arith) in
+    let whole : put_mid base k f ys ≡ put_chunk base f ys = ap (λ (j : ℕ). put_mid base j f ys) (ek ∙ sym many) ∙ sym (put_chunk_is base f ys (omega (arith, many))) in
     record {
-      frame = frame_set (base + i) x (frame_wide base (i + 1) (omega arith) (omega arith) M.frame) (omega arith) (omega arith);
-      at = store_more (λ k y. y ≡ mul binary64 (get_or f (base + k) nan) factor) nan f' base i x p M.at (e ∙ ap (λ (y : Float). mul binary64 y factor) same);
+      frame = frame_by nan (ap length whole ∙ length-put_chunk base f ys)
+          (λ j out. ap (λ (l : List Float). get_or l j nan) whole ∙ ⊎_elim
+          (λ q. get_or-put_chunk_below base f ys j nan q)
+          (λ q. get_or-put_chunk_above base f ys j nan (omega (arith, many, out q)))
+          (below_or_not j base));
+      at = λ j l.
+          ap (λ (x : List Float). get_or x (base + j) nan) whole
+          ∙ get_or-put_chunk_at base f ys j nan (omega (arith, many)) (omega (arith, many))
+          ∙ T.done j (omega arith)
+          ∙ ap (λ (y : Float). mul binary64 y factor) (get_or-take k (drop base f) j nan (omega arith) ∙ get_or-drop base f j nan);
     }
 
 -- ---- the totals
-
--- up to 4,096 nodes the pairs fit 64 bits
-pub below_pairs : (n : ℕ) → n ≤ 4096 → n * (n - 1) < 2 ^ 64
-below_pairs n h =
-    let a : n * (n - 1) ≤ 4096 * (n - 1) = mul-le-mul_right (n - 1) h in
-    omega arith
 
 module _ (n : ℕ) (directed normalized : Bool) (many : ℕ) {f f' : List Float} where
   -- normalized and n > 1
@@ -53,7 +65,3 @@ not_scaled n directed normalized many f t =
           let x = get_or f (totals_at n + p) nan in
           ap (λ (b : Bool). cond b (mul binary64 x (div binary64 (cond directed one two) (double (n * (n - 1))))) x) (sym t);
     }
-
--- one over the pairs, by the case that holds
-pub factor_is : (n : ℕ) {directed : Bool} (b : Bool) {pairs : Float} → directed ≡ b → pairs ≡ double (n * (n - 1)) → div binary64 (cond b one two) pairs ≡ div binary64 (cond directed one two) (double (n * (n - 1)))
-factor_is n b d e = ap (div binary64 (cond b one two)) e ∙ ap (λ (x : Bool). div binary64 (cond x one two) (double (n * (n - 1)))) (sym d)

@@ -16,13 +16,14 @@ use Rattle.graph.proofs.Edges.{edges_long, edges_at, no_edge}
 use Rattle.hops.specs.Search.{graph_of}
 use Rattle.hops.proofs.Search.{get_or_mem}
 use Rattle.rows.specs.Walks.{takes}
-use Rattle.pairs.specs.Numbers.{number_in}
+use Rattle.pairs.specs.declared.Table.{Table}
+use Rattle.pairs.specs.Numbers.{number_in, table_at}
 use Rattle.pairs.specs.Writes.{among, place_of, total_of, WalkPre, Walked, ForwardPost, back_of, BackPost}
 use Rattle.pairs.proofs.Numbers.{rows_rise}
 use Rattle.pairs.proofs.Cursors.{Stands, among_long, forward_entry, back_entry}
 use Rattle.crossings.specs.Totals.{scaled_total}
 use Rattle.pair_starts.specs.Starts.{TotalsHeld}
-use Rattle.edge_totals.specs.Writes.{RowsNumbered, EdgesPre, EdgesPost, ScalePre, TotalsScaled}
+use Rattle.edge_totals.specs.Writes.{RowsNumbered, EdgesPre, EdgesPost, TotalsScaled}
 use Rattle.pair_starts.proofs.Numbering.{number_low}
 
 -- place is that of an entry x of v, where the rows of g stand in w
@@ -196,50 +197,61 @@ module _ {n : ℕ} {directed : Bool} {from to : List ℕ} {weight : List Float} 
 -- ---- all steps of `write_edges`
 
 module _ {n : ℕ} {directed : Bool} {from to w : List ℕ} {f forward back : List Float} (P : EdgesPre n directed from to w f forward back) where
-  pub scale_asks : ScalePre n (2 * length from) f
-  scale_asks = record { few = P.sound.limits.nodes; held = omega (arith, P.floats) }
+  -- in the places of the table
+  module _ {tb : Table} (is : tb ≡ table_at n (length from)) where
+    pub cursors_ask : Apart w 0 tb.marks n
+    cursors_ask = subst (λ (t : Table). Apart w 0 t.marks n) (sym is) (record { source = omega (arith, P.narrow); target = omega (arith, P.narrow); apart = λ i j a b e. omega arith })
 
-  pub cursors_ask : Apart w 0 (queue_at n (length from)) n
-  cursors_ask = record { source = omega (arith, P.narrow); target = omega (arith, P.narrow); apart = λ i j a b e. omega arith }
+    module _ {normalized : Bool} {f1 : List Float} {w1 : List ℕ} (D : TotalsScaled n directed normalized (2 * length from) f f1) (copied : Copied w 0 w tb.marks n w1) where
+      C : Copied w 0 w (queue_at n (length from)) n w1
+      C = subst (λ (t : Table). Copied w 0 w t.marks n w1) is copied
 
-  module _ {normalized : Bool} {f1 : List Float} {w1 : List ℕ} (D : TotalsScaled n directed normalized (2 * length from) f f1) (C : Copied w 0 w (queue_at n (length from)) n w1) where
-    pub forward_asks : WalkPre n false from from w1 (queue_at n (length from)) (beside_at n (length from)) (totals_at n) f1 forward
-    forward_asks = forward_pre P.sound P.numbered C P.narrow (omega (arith, P.floats, D.frame.long)) P.forwards
+      pub forward_asks : WalkPre n false from from w1 tb.marks tb.beside tb.totals f1 forward
+      forward_asks =
+          subst (λ (t : Table). WalkPre n false from from w1 t.marks t.beside t.totals f1 forward) (sym is)
+          (forward_pre P.sound P.numbered C P.narrow (omega (arith, P.floats, D.frame.long)) P.forwards)
 
-    module _ {w2 : List ℕ} {forward' : List Float} (F : ForwardPost n from w1 (queue_at n (length from)) (beside_at n (length from)) (totals_at n) f1 forward w2 forward') where
-      floats : Front f (usual_fronts n (length from)).floats f1
-      floats = frame_front (usual_fronts n (length from)).floats (omega arith) D.frame
+      module _ {w2 : List ℕ} {forward' : List Float} (forwards : ForwardPost n from w1 tb.marks tb.beside tb.totals f1 forward w2 forward') where
+        F : ForwardPost n from w1 (queue_at n (length from)) (beside_at n (length from)) (totals_at n) f1 forward w2 forward'
+        F = subst (λ (t : Table). ForwardPost n from w1 t.marks t.beside t.totals f1 forward w2 forward') is forwards
 
-      passed : Frame w (queue_at n (length from)) n w2
-      passed = frame_then C.frame F.walked.frame
+        floats : Front f (usual_fronts n (length from)).floats f1
+        floats = frame_front (usual_fronts n (length from)).floats (omega arith) D.frame
 
-      pub written_directed : directed ≡ true → EdgesPost n directed normalized from to w f forward back w2 f1 forward' back
-      written_directed d =
-          record {
-            narrow = frame_front (usual_fronts n (length from)).narrow (omega arith) passed;
-            floats = floats;
-            forwards = λ weight S R total T. forward_is S R C T D F;
-            backs = λ weight S R total T. ap (λ (b : Bool). cond b back (over (map (λ e. scaled_total n directed normalized (total e.to e.from)) (edges_of from to weight)) back)) (sym d);
-          }
+        passed : Frame w (queue_at n (length from)) n w2
+        passed = frame_then C.frame F.walked.frame
 
-      module _ (d : directed ≡ false) where
-        pub back_asks : WalkPre n true to from w2 (queue_at n (length from)) (beside_at n (length from)) (totals_at n) f1 back × (length to ≤ length forward')
-        back_asks = (back_pre P.sound P.numbered C d F.walked P.narrow (omega (arith, P.floats, D.frame.long)) (P.backs d), omega (arith, long, P.forwards, P.sound.sized.tos))
-          where
-            h : ℕ → Float
-            h = total_of false from from w1 (queue_at n (length from)) (beside_at n (length from)) (totals_at n) f1
-
-            long : length forward' ≡ length forward
-            long = ap length F.written ∙ over_long (list_of h (length from)) forward (omega (arith, list_long h (length from), P.forwards))
-
-        pub written_both : {w3 : List ℕ} {back' : List Float} → BackPost n from to w2 (queue_at n (length from)) (beside_at n (length from)) (totals_at n) f1 forward' back w3 back'
-            → EdgesPost n directed normalized from to w f forward back w3 f1 forward' back'
-        written_both B =
+        pub written_directed : directed ≡ true → EdgesPost n directed normalized from to w f forward back w2 f1 forward' back
+        written_directed d =
             record {
-              narrow = frame_front (usual_fronts n (length from)).narrow (omega arith) (frame_then passed B.walked.frame);
+              narrow = frame_front (usual_fronts n (length from)).narrow (omega arith) passed;
               floats = floats;
               forwards = λ weight S R total T. forward_is S R C T D F;
-              backs = λ weight S R total T.
-                  back_is S R C d F.walked T D F B
-                  ∙ ap (λ (b : Bool). cond b back (over (map (λ e. scaled_total n directed normalized (total e.to e.from)) (edges_of from to weight)) back)) (sym d);
+              backs = λ weight S R total T. ap (λ (b : Bool). cond b back (over (map (λ e. scaled_total n directed normalized (total e.to e.from)) (edges_of from to weight)) back)) (sym d);
             }
+
+        module _ (d : directed ≡ false) where
+          pub back_asks : WalkPre n true to from w2 tb.marks tb.beside tb.totals f1 back × (length to ≤ length forward')
+          back_asks = (
+            subst (λ (t : Table). WalkPre n true to from w2 t.marks t.beside t.totals f1 back) (sym is) (back_pre P.sound P.numbered C d F.walked P.narrow (omega (arith, P.floats, D.frame.long)) (P.backs d)),
+            omega (arith, long, P.forwards, P.sound.sized.tos),
+          )
+            where
+              h : ℕ → Float
+              h = total_of false from from w1 (queue_at n (length from)) (beside_at n (length from)) (totals_at n) f1
+
+              long : length forward' ≡ length forward
+              long = ap length F.written ∙ over_long (list_of h (length from)) forward (omega (arith, list_long h (length from), P.forwards))
+
+          pub written_both : {w3 : List ℕ} {back' : List Float} → BackPost n from to w2 tb.marks tb.beside tb.totals f1 forward' back w3 back'
+              → EdgesPost n directed normalized from to w f forward back w3 f1 forward' back'
+          written_both {w3} {back'} backs =
+              let B : BackPost n from to w2 (queue_at n (length from)) (beside_at n (length from)) (totals_at n) f1 forward' back w3 back' = subst (λ (t : Table). BackPost n from to w2 t.marks t.beside t.totals f1 forward' back w3 back') is backs in
+              record {
+                narrow = frame_front (usual_fronts n (length from)).narrow (omega arith) (frame_then passed B.walked.frame);
+                floats = floats;
+                forwards = λ weight S R total T. forward_is S R C T D F;
+                backs = λ weight S R total T.
+                    back_is S R C d F.walked T D F B
+                    ∙ ap (λ (b : Bool). cond b back (over (map (λ e. scaled_total n directed normalized (total e.to e.from)) (edges_of from to weight)) back)) (sym d);
+              }

@@ -1,6 +1,6 @@
 -- What a reader of `eigenvector` may rely on: no second outcome meets its contract; its scores are the start stepped exactly the reported
 -- rounds; settled "yes" implies that every score is finite. Assumes nothing.
-use Rattle.std.proofs.Common.{◌≡◌, ℕ, ◌<◌, ◌≤◌, Bool, true, false, cond, ◌||◌, eqb, List, length, get_or, refl, ap, ◌∙◌, arith}
+use Rattle.std.proofs.Common.{◌≡◌, ℕ, ◌<◌, ◌≤◌, Bool, true, false, cond, ◌||◌, eqb, List, length, get_or, sym, ap, ◌∙◌, arith}
 use lib.Ieee.{Float, nan, binary64, div, lt}
 use lib.Ieee.Scale.{finite}
 use Rattle.regions.specs.Region.{list_of}
@@ -8,10 +8,11 @@ use Rattle.regions.proofs.Fronts.{list_long}
 use Rattle.regions.proofs.Parts.{list_at_lem}
 use Rattle.answers.specs.declared.Settings.{Settings}
 use Rattle.answers.specs.declared.Rounds.{Rounds}
-use Rattle.answers.specs.Answers.{done, said_ended}
+use Rattle.answers.specs.Answers.{done, said_by}
 use Rattle.graph.specs.Edges.{Graph}
-use Rattle.answers.specs.declared.Ended.{Ended}
-use Rattle.answers.proofs.Said.{ended_returned}
+use Rattle.std.specs.Prelude.{Result, Ok, Err}
+use Rattle.answers.specs.declared.Refusal.{Refusal}
+use Rattle.answers.proofs.Said.{returned}
 use Rattle.graph.specs.Given.{Given, graph_in}
 use Rattle.graph.specs.Refusals.{first_refusal}
 use Rattle.graph.specs.Left.{left}
@@ -29,11 +30,11 @@ use Rattle.eigenvector.specs.Eigenvector.{tiny, start_of, uniform, grown, norm_o
 use Rattle.eigenvector.proofs.Start.{start_finite}
 use Rattle.eigenvector.proofs.Steps.{ready}
 
-pub eigenvector_unique : (settings : Settings) (g : Given (List Float)) {r r' : Ended} {s s' : List Float} {x x' y y' : List ℕ} {z z' : List Float}
-    → left (said_ended r) s x y z ≡ eigen_outcome settings g → left (said_ended r') s' x' y' z' ≡ eigen_outcome settings g → (r ≡ r') × (s ≡ s') × (x ≡ x') × (y ≡ y') × (z ≡ z')
+pub eigenvector_unique : (settings : Settings) (g : Given (List Float)) {r r' : Result Rounds Refusal} {s s' : List Float} {x x' y y' : List ℕ} {z z' : List Float}
+    → left (said_by r) s x y z ≡ eigen_outcome settings g → left (said_by r') s' x' y' z' ≡ eigen_outcome settings g → (r ≡ r') × (s ≡ s') × (x ≡ x') × (y ≡ y') × (z ≡ z')
 eigenvector_unique settings g {r} {r'} p q =
     let same = no_second p q in
-    (ended_returned r r' same.0, same.1, same.2, same.3, same.4)
+    (returned r r' same.0, same.1, same.2, same.3, same.4)
 
 module _ (g : Graph) (settings : Settings) where
   pub eigenvector_says : Says (eqb g.nodes 0 || eqb (length g.edges) 0) (eigen_step g settings.tolerance) settings.limit (uniform g.nodes) (eigen_rounds g settings)
@@ -71,5 +72,7 @@ pub eigenvector_finite : (settings : Settings) (g : Given (List Float)) {r : Rou
     → (i : ℕ) → i < g.nodes → finite (get_or (eigen_outcome settings g).results i nan) ≡ true
 unfolding eigen_outcome
 eigenvector_finite settings g e =
-    let p = passed (eigen_tests settings g) refl refl (not_refused g (first_refusal (eigen_tests settings g)) (settled_only g settings (eigen_rounds (graph_in g) settings)) e) in
+    let t = eigen_tests settings g in
+    let none = not_refused g (first_refusal t) (settled_only g settings (eigen_rounds (graph_in g) settings)) e in
+    let p = passed t (ap (λ (b : Bool). cond b (Err (record { answer = first_refusal t })) (Ok tt)) (sym none)) in
     scores_finite g settings (eigen_rounds (graph_in g) settings) (settled_finite (graph_in g) settings (ready settings g p).sound.limits.nodes) (first_refusal (eigen_tests settings g)) e

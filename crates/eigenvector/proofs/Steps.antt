@@ -1,20 +1,22 @@
 -- The steps of `eigenvector` put together: a round, the rounds, the call. Assumes nothing.
-use Rattle.std.proofs.Common.{◌≡◌, ℕ, ◌+◌, ◌<◌, ◌≤◌, Bool, true, false, not, ◌||◌, eqb, List, length, get_or, sym, refl, ap, ◌∙◌, subst, arith, eq-eqb, ne_eqb}
+use Rattle.std.proofs.Common.{◌≡◌, ℕ, ◌+◌, ◌<◌, ◌≤◌, Bool, true, false, not, ◌||◌, eqb, ltb, List, [], ◌∷◌, suc, length, get_or, sym, refl, ap, ◌∙◌, subst, arith, ne_eqb}
+use borrow.Author.Tests.{eqb-false}
 use mathlib.Core.List.{foldl}
-use lib.Ieee.{Float, nan, binary64, add, div, lt}
+use lib.Ieee.{Float, nan, binary64, div, lt}
 use lib.Ieee.Scale.{finite}
-use Rattle.regions.specs.Region.{zero_f, list_of, Filled}
+use Rattle.regions.specs.Region.{list_of, Filled}
 use Rattle.regions.proofs.Fronts.{front_then}
 use Rattle.regions.proofs.Frames.{frame_front}
 use Rattle.regions.proofs.Parts.{list_at_lem, part_is}
 use Rattle.roots.specs.Root.{sqrt_of}
-use Rattle.answers.specs.declared.Answer.{Answer}
+use Rattle.std.specs.Prelude.{Result}
+use Rattle.answers.specs.declared.Refusal.{Refusal}
 use Rattle.answers.specs.declared.Settings.{Settings}
 use Rattle.answers.specs.declared.Rounds.{Rounds}
 use Rattle.graph.specs.declared.Fronts.{Fronts}
-use Rattle.answers.specs.Answers.{Said}
+use Rattle.answers.specs.Answers.{Said, refused_if}
 use Rattle.graph.specs.Checks.{number_wrong}
-use Rattle.graph.specs.Edges.{edges_of, graph_from}
+use Rattle.graph.specs.Edges.{edges_from, edges_of, graph_from}
 use Rattle.graph.specs.Fronts.{usual_fronts}
 use Rattle.graph.specs.Given.{Given, graph_in}
 use Rattle.graph.specs.Refusals.{first_refusal}
@@ -22,22 +24,19 @@ use Rattle.graph.specs.Pres.{Passed, Ready, Sound}
 use Rattle.graph.specs.Left.{left}
 use Rattle.graph.proofs.Edges.{edges_long}
 use Rattle.graph.proofs.Left.{went_on}
-use Rattle.rounds.specs.Rounds.{after, Round, round, outcome_from, outcome}
-use Rattle.rounds.specs.Tests.{iterative_tests}
+use Rattle.rounds.specs.Rounds.{Round, round, outcome}
+use Rattle.rounds.specs.declared.Own.{Own}
+use Rattle.rounds.specs.Tests.{own_tests}
 use Rattle.rounds.specs.Ending.{settled_only, settled_by, WritePre}
-use Rattle.rounds.specs.Vectors.{entry, squared, squared_change, settles, current_in, next_in, Vectors}
-use Rattle.rounds.specs.Steps.{SpreadsPre, RoundDone, RoundsDone}
-use Rattle.rounds.proofs.Rounds.{after_more}
-use Rattle.rounds.proofs.Vectors.{next_at_lem}
-use Rattle.rounds.proofs.Tests.{iterative_ready, iterative_fits}
+use Rattle.rounds.specs.Vectors.{entry, spreads, squared_change, settles, current_in, next_in, Vectors}
+use Rattle.rounds.specs.Steps.{SpreadsPre, edge_spread, EdgesSpread, RoundDone, RoundsDone}
+use Rattle.rounds.proofs.Vectors.{vectors_are}
+use Rattle.rounds.proofs.Tests.{checked, iterative_ready, iterative_fits}
 use Rattle.rounds.proofs.Ending.{vectors_room, write_pre, settled_ends}
-use Rattle.eigenvector.specs.Eigenvector.{tiny, start_of, uniform, eigen_edge, grown, with_square, norm_of, scaled, eigen_end, eigen_step, eigen_rounds, eigen_own, eigen_tests, eigen_outcome}
+use Rattle.eigenvector.specs.Eigenvector.{tiny, start_of, uniform, eigen_edge, grown, norm_of, scaled, eigen_end, eigen_step, eigen_rounds, eigen_own, eigen_tests, eigen_outcome}
+use Rattle.eigenvector.specs.Steps.{RoundPre}
 
 -- ---- the turns of the loops
-pub square_more : (n : ℕ) (w : List Float) (i : ℕ) {sum : Float} → i < n → sum ≡ after (with_square (next_in n w)) i zero_f
-    → add binary64 sum (squared (get_or w (n + i) nan)) ≡ after (with_square (next_in n w)) (i + 1) zero_f
-square_more n w i {sum} l e = ap (λ (v : Float). add binary64 sum (squared v)) (next_at_lem n w i l) ∙ after_more (with_square (next_in n w)) i zero_f sum e
-
 abbrev pub scaled_at : Float → List Float → ℕ → Float
 scaled_at norm y i = div binary64 (entry y i) norm
 
@@ -54,6 +53,33 @@ filled_vectors n v {w} {w'} l f =
       next = part_is nan w' n n (λ _. v) (omega (arith, f.frame.long)) (λ i h. let e : n + i ≡ 0 + (n + i) = omega arith in ap (λ (k : ℕ). get_or w' k nan) e ∙ f.at nan (n + i) (omega arith));
     }
 
+-- ---- the edges, each turned round
+pub spreads_turned : {n : ℕ} {from to : List ℕ} {weight w : List Float} → SpreadsPre n from to weight w → SpreadsPre n to from weight w
+spreads_turned s =
+    let z = s.sound.sized in
+    record {
+      sound = record {
+        sized = record { tos = sym z.tos; weights = z.weights ∙ sym z.tos };
+        limits = record { nodes = s.sound.limits.nodes; edges = omega (arith, s.sound.limits.edges, z.tos) };
+        ends = record { froms = λ i l. s.sound.ends.tos i (omega (arith, z.tos)); tos = λ i l. s.sound.ends.froms i (omega (arith, z.tos)) };
+      };
+      room = s.room;
+    }
+
+same_edges : (directed : Bool) (x : List Float) (k : ℕ) (fs ts : List ℕ) (xs y : List Float)
+    → foldl (edge_spread (λ w. w) directed x) y (edges_from k ts fs xs) ≡ foldl (eigen_edge directed x) y (edges_from k fs ts xs)
+unfolding edges_from
+same_edges directed x k [] [] xs y = refl
+same_edges directed x k [] (t ∷ ts) xs y = refl
+same_edges directed x k (f ∷ fs) [] xs y = refl
+same_edges directed x k (f ∷ fs) (t ∷ ts) [] y = refl
+same_edges directed x k (f ∷ fs) (t ∷ ts) (z ∷ xs) y = same_edges directed x (suc k) fs ts xs (spreads directed z x y t f)
+
+-- what they add
+pub turned : (n : ℕ) (directed : Bool) (from to : List ℕ) (weight : List Float) {w w1 : List Float} → EdgesSpread (λ x. x) n directed to from weight w w1
+    → Vectors n w (current_in n w) (foldl (eigen_edge directed (current_in n w)) (next_in n w) (edges_of from to weight)) w1
+turned n directed from to weight {w} s = vectors_are refl (same_edges directed (current_in n w) 0 from to weight (next_in n w)) s
+
 -- ---- a round: the edges made w1 of w
 module _ (n : ℕ) (directed : Bool) (from to : List ℕ) (weight : List Float) (tolerance : Float) {w w1 : List Float} (begun : next_in n w ≡ current_in n w)
     (s : Vectors n w (current_in n w) (foldl (eigen_edge directed (current_in n w)) (next_in n w) (edges_of from to weight)) w1)
@@ -69,34 +95,36 @@ module _ (n : ℕ) (directed : Bool) (from to : List ℕ) (weight : List Float) 
 
     -- a tiny norm
     pub round_tiny : {start norm : Float} {w2 : List Float} → n + n ≤ length w1 → start ≡ start_of n → norm ≡ norm_of n (next_in n w1) → lt norm tiny ≡ true
-        → Filled w1 0 (n + n) start w2 → RoundDone n Step (current_in n w2) w true w2
+        → Filled w1 0 (n + n) start w2 → RoundDone n Step w true w2 × (next_in n w2 ≡ current_in n w2)
     unfolding eigen_end
     round_tiny {start} {norm} {w2} l es en t f =
-        let v : Vectors n w1 (list_of (λ _. start) n) (list_of (λ _. start) n) w2 = filled_vectors n start l f in
-        record {
-          front = front_then s.front v.front;
-          stepped = made ∙ rw (← en, t) (ap (λ (x : List Float). round x true) (sym (v.current ∙ ap (λ (a : Float). list_of (λ _. a) n) es)));
-          begun = v.next ∙ sym v.current;
-        }
+        let v : Vectors n w1 (list_of (λ _. start) n) (list_of (λ _. start) n) w2 = filled_vectors n start l f in (
+          record {
+            front = front_then s.front v.front;
+            stepped = made ∙ rw (← en, t) (ap (λ (x : List Float). round x true) (sym (v.current ∙ ap (λ (a : Float). list_of (λ _. a) n) es)));
+          },
+          v.next ∙ sym v.current,
+        )
 
     -- any other
     pub round_scaled : {norm change root : Float} {w2 : List Float} → norm ≡ norm_of n (next_in n w1) → lt norm tiny ≡ false
         → change ≡ squared_change n (current_in n w1) (scaled n norm (next_in n w1))
         → Vectors n w1 (scaled n norm (next_in n w1)) (scaled n norm (next_in n w1)) w2
         → root ≡ sqrt_of change
-        → RoundDone n Step (current_in n w2) w (lt root tolerance) w2
+        → RoundDone n Step w (lt root tolerance) w2 × (next_in n w2 ≡ current_in n w2)
     unfolding eigen_end settles
     round_scaled {norm} {change} {root} {w2} en t ec v er =
         let z = scaled n norm (next_in n w1) in
         let met : lt (sqrt_of (squared_change n (current_in n w) z)) tolerance ≡ lt root tolerance
         = ap (λ (x : List Float). lt (sqrt_of (squared_change n x z)) tolerance) (sym s.current)
         ∙ ap (λ (d : Float). lt (sqrt_of d) tolerance) (sym ec)
-        ∙ ap (λ (r : Float). lt r tolerance) (sym er) in
-        record {
-          front = front_then s.front v.front;
-          stepped = made ∙ rw (← en, t) (ap (λ (b : Bool). round z b) met ∙ ap (λ (x : List Float). round x (lt root tolerance)) (sym v.current));
-          begun = v.next ∙ sym v.current;
-        }
+        ∙ ap (λ (r : Float). lt r tolerance) (sym er) in (
+          record {
+            front = front_then s.front v.front;
+            stepped = made ∙ rw (← en, t) (ap (λ (b : Bool). round z b) met ∙ ap (λ (x : List Float). round x (lt root tolerance)) (sym v.current));
+          },
+          v.next ∙ sym v.current,
+        )
 
 -- ---- the rounds: w1 is w with both vectors uniform
 module _ (n : ℕ) (directed : Bool) (from to : List ℕ) (weight : List Float) (sound : Sound n from to weight) (settings : Settings) {start : Float} {w w1 : List Float}
@@ -108,47 +136,54 @@ module _ (n : ℕ) (directed : Bool) (from to : List ℕ) (weight : List Float) 
     both : Vectors n w (list_of (λ _. start) n) (list_of (λ _. start) n) w1
     both = filled_vectors n start room f
 
-    pub begun_both : next_in n w1 ≡ current_in n w1
-    begun_both = both.next ∙ sym both.current
-
     begins : current_in n w1 ≡ uniform n
     begins = both.current ∙ ap (λ (a : Float). list_of (λ _. a) n) es
+
+    -- the first round may begin
+    pub first_pre : RoundPre n from to weight start w1
+    first_pre = record { spreads = record { sound = sound; room = omega (arith, f.frame.long) }; begun = both.next ∙ sym both.current; value = es }
 
     or_true : (b : Bool) → (b || true) ≡ true
     or_true true = refl
     or_true false = refl
 
-    pub run_none : length from ≡ 0 → Done (record { settings = settings; rounds = 0; settled = true }) w1
-    unfolding eigen_rounds outcome
-    run_none e =
-        record {
-          front = both.front;
-          settings_kept = refl;
-          ended = rw (eq-eqb (length (edges_of from to weight)) 0 (edges_long from to weight sound.sized ∙ e), or_true (eqb n 0), begins);
-        }
+    -- an edge has ends: where there are edges, there are nodes
+    before : (b : Bool) → eqb (length from) 0 ≡ b → (eqb n 0 || b) ≡ b
+    before true t = or_true (eqb n 0)
+    before false e =
+        let some : 0 < length from = let h = eqb-false (length from) 0 e in omega arith in
+        rw (ne_eqb n 0 (λ h. omega (arith, sound.ends.froms 0 some)))
 
-    -- r and w2 are what the rounds made of w1; an edge has ends, so there are nodes
-    pub run_some : {r : Rounds} {w2 : List Float} → (length from ≡ 0 → ⊥)
-        → RoundsDone n settings (outcome_from (eigen_step (graph_from n directed from to weight) settings.tolerance) settings.limit 0 (current_in n w1)) w1 r w2
+    before_is : (eqb n 0 || eqb (length (edges_of from to weight)) 0) ≡ eqb (length from) 0
+    before_is = ap (λ (k : ℕ). eqb n 0 || eqb k 0) (edges_long from to weight sound.sized) ∙ before (eqb (length from) 0) refl
+
+    -- r and w2 are what the rounds made of w1
+    pub run_done : {r : Rounds} {w2 : List Float}
+        → RoundsDone n settings (outcome (eqb (length from) 0) (eigen_step (graph_from n directed from to weight) settings.tolerance) settings.limit (current_in n w1)) w1 r w2
         → Done r w2
-    unfolding eigen_rounds outcome
-    run_some {r} {w2} e d =
+    unfolding eigen_rounds
+    run_done d =
         let step = eigen_step (graph_from n directed from to weight) settings.tolerance in
-        let some : 0 < length from = omega arith in
         record {
           front = front_then both.front d.front;
           settings_kept = d.settings_kept;
-          ended = rw (ne_eqb (length (edges_of from to weight)) 0 (λ h. e (sym (edges_long from to weight sound.sized) ∙ h)), ne_eqb n 0 (λ h. omega (arith, sound.ends.froms 0 some)))
-              (d.ended ∙ ap (outcome_from step settings.limit 0) begins);
+          ended = d.ended ∙ ap (outcome (eqb (length from) 0) step settings.limit) begins ∙ ap (λ (b : Bool). outcome b step settings.limit (uniform n)) (sym before_is);
         }
+
+-- a round leaves what the next one asks
+pub again_pre : {n : ℕ} {from to : List ℕ} {weight w w' : List Float} {start : Float} {met : Bool} {step : List Float → Round (List Float)} → RoundPre n from to weight start w
+    → RoundDone n step w met w' × (next_in n w' ≡ current_in n w') → RoundPre n from to weight start w'
+again_pre p r = record { spreads = record { sound = p.spreads.sound; room = omega (arith, p.spreads.room, r.0.front.long) }; begun = r.1; value = p.value }
 
 -- ---- the call
 module _ (settings : Settings) (g : Given (List Float)) where
-  -- what the checks answered, b being one of them
-  pub answered : {a : Answer} {b : Bool}
-      → a ≡ first_refusal (iterative_tests g false (record { number = b; damping = false; rounds = false; lengths = false; start = false }))
-      → b ≡ (number_wrong g.weight || not (finite settings.tolerance)) → a ≡ first_refusal (eigen_tests settings g)
-  answered ea eb = ea ∙ ap (λ (x : Bool). first_refusal (iterative_tests g false (record { number = x; damping = false; rounds = false; lengths = false; start = false }))) eb
+  -- the tests as the code found them
+  pub answered : {x : Result (Unit {0}) Refusal} {l : Fronts} {b : Bool} → (l.narrow ≡ length g.w32) × (l.wide ≡ length g.w64) × (l.floats ≡ length g.wf)
+      → b ≡ (number_wrong g.weight || not (finite settings.tolerance))
+      → let own : Own = record { number = b; damping = false; rounds = false; lengths = false; start = false } in
+      x ≡ refused_if (first_refusal (own_tests g.nodes g.from g.to g.weight false own (ltb (length g.results) g.nodes) l.narrow l.wide l.floats))
+      → x ≡ refused_if (first_refusal (eigen_tests settings g))
+  answered z eb e = rw eb at (checked g false _ z e)
 
   module _ (p : Passed (eigen_tests settings g)) where
     pub ready : Ready g

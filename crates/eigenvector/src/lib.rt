@@ -4,18 +4,18 @@
 ghost use Rattle.std.specs.Prelude.{◌≡◌, ◌+◌, ◌≤◌, not, ◌||◌, length};
 ghost use mathlib.Core.List.{foldl};
 ghost use Rattle.std.specs.Float.Ieee.Scale.{finite};
-ghost use Rattle.answers.specs.Answers.{said_ended};
+ghost use Rattle.answers.specs.Answers.{said_by};
 ghost use Rattle.graph.specs.Checks.{number_wrong};
-ghost use Rattle.graph.specs.Edges.{edges_of, graph_from};
-ghost use Rattle.graph.specs.Given.{given};
+ghost use Rattle.graph.specs.Edges.{edges_of};
+ghost use Rattle.graph.specs.Given.{lent, of_edges, lent_graph};
 ghost use Rattle.graph.specs.Left.{left};
-ghost use Rattle.rounds.specs.Rounds.{outcome_from};
 ghost use Rattle.rounds.specs.Vectors.{current_in, next_in, squared_change, Vectors};
 ghost use Rattle.rounds.specs.Steps.{SpreadsPre, RoundDone, RoundsDone};
 ghost use Rattle.eigenvector.specs.Eigenvector.{start_of, eigen_edge, norm_of, scaled, eigen_step, eigen_rounds, eigen_outcome};
 ghost use Rattle.eigenvector.specs.Steps.{RoundPre};
 
-use answers::{Ended, Refusal, Rounds, Settings};
+use answers::{Refusal, Rounds, Settings};
+use graph::Graph;
 use rounds::Own;
 
 // A norm below this ends the rounds.
@@ -24,43 +24,27 @@ const TINY: f64 = 0.0000000001;
 // The damping is not read.
 // Refuses SIZE, NODE, NUMBER, ROOM, and UNSETTLED when all rounds are used and none met a stop rule, in this order.
 pub fn eigenvector(
-    nodes: usize,
-    directed: bool,
-    from: &[u32],
-    to: &[u32],
-    weight: &[f64],
+    graph: Graph<'_>,
     settings: Settings,
     scores: &mut [f64],
     w32: &mut [u32],
     w64: &mut [u64],
     wf: &mut [f64],
-) -> Ended
-    ensures { left (said_ended result) scores.new w32.new w64.new wf.new ≡ eigen_outcome settings (given nodes directed from.now to.now weight.now scores.old w32.old w64.old wf.old) }
+) -> Result<Rounds, Refusal>
+    ensures { left (said_by result) scores.new w32.new w64.new wf.new ≡ eigen_outcome settings (lent graph.entry scores.old w32.old w64.old wf.old) }
 {
+    let nodes = graph.nodes;
     let own = Own {
-        number: reads_wrong(weight, settings.tolerance),
+        number: reads_wrong(graph.weight, settings.tolerance),
         damping: false,
         rounds: false,
         lengths: false,
         start: false,
     };
-    let answer = rounds::refusal(
-        nodes,
-        from,
-        to,
-        weight,
-        false,
-        own,
-        scores.len() < nodes,
-        w32.len(),
-        w64.len(),
-        wf.len(),
-    );
-    if answers::refuses(answer) {
-        return Ended::Refused(Refusal { answer });
-    }
-    let ended = run(nodes, directed, from, to, weight, settings, wf);
-    let front = graph::usual_fronts(nodes, from.len());
+    let lengths = graph::lengths(w32, w64, wf);
+    rounds::refusal(graph, false, own, scores.len() < nodes, lengths)?;
+    let ended = run(graph, settings, wf);
+    let front = graph::usual_fronts(nodes, graph.from.len());
     rounds::write_settled(nodes, front, ended, scores, w32, w64, wf)
 }
 
@@ -68,38 +52,22 @@ pub fn eigenvector(
 fn reads_wrong(weight: &[f64], tolerance: f64) -> bool
     ensures { result ≡ number_wrong weight.now || not (finite tolerance) }
 {
-    if graph::number_wrong(weight) {
-        return true;
-    }
-    if graph::is_finite(tolerance) {
-        return false;
-    }
-    true
+    graph::number_wrong(weight) || !graph::is_finite(tolerance)
 }
 
-// The uniform vector, and rounds until one meets a stop rule, or all are used. Without edges a stop rule is met before the first.
-fn run(
-    nodes: usize,
-    directed: bool,
-    from: &[u32],
-    to: &[u32],
-    weight: &[f64],
-    settings: Settings,
-    wf: &mut [f64],
-) -> Rounds
-    requires { SpreadsPre nodes from.now to.now weight.now wf.old }
-    ensures { RoundsDone nodes settings (eigen_rounds (graph_from nodes directed from.now to.now weight.now) settings) wf.old result wf.new }
+// The rounds, from the uniform vector. Without edges a stop rule is met before the first.
+fn run(graph: Graph<'_>, settings: Settings, wf: &mut [f64]) -> Rounds
+    requires { of_edges SpreadsPre graph wf.old }
+    ensures { RoundsDone graph.entry.nodes settings (eigen_rounds (lent_graph graph.entry) settings) wf.old result wf.new }
 {
+    let nodes = graph.nodes;
     let start = start_value(nodes);
-    regions::fillf(wf, 0, nodes + nodes, start);
-    if from.len() == 0 {
-        return Rounds {
-            settings,
-            rounds: 0,
-            settled: true,
-        };
-    }
-    run_on(nodes, directed, from, to, weight, settings, start, wf)
+    regions::fill(wf, 0, nodes + nodes, start);
+    let one = |floats: &mut [f64]| -> bool
+        requires { of_edges RoundPre graph start floats.old }
+        ensures { RoundDone graph.entry.nodes (eigen_step (lent_graph graph.entry) settings.tolerance) floats.old result floats.new × (next_in graph.entry.nodes floats.new ≡ current_in graph.entry.nodes floats.new) }
+    { round(graph, settings.tolerance, start, floats) };
+    rounds::run(settings, graph.from.len() == 0, one, wf)
 }
 
 // 1/sqrt(n), which every entry starts with.
@@ -109,60 +77,17 @@ fn start_value(nodes: usize) -> f64
     1.0 / roots::sqrt(std::num::nearest_u64_to_f64(nodes as u64))
 }
 
-// The rounds, from a current vector that the next one equals.
-fn run_on(
-    nodes: usize,
-    directed: bool,
-    from: &[u32],
-    to: &[u32],
-    weight: &[f64],
-    settings: Settings,
-    start: f64,
-    wf: &mut [f64],
-) -> Rounds
-    requires { RoundPre nodes from.now to.now weight.now start wf.old }
-    ensures { RoundsDone nodes settings (outcome_from (eigen_step (graph_from nodes directed from.now to.now weight.now) settings.tolerance) settings.limit 0 (current_in nodes wf.old)) wf.old result wf.new }
-{
-    let tolerance = settings.tolerance;
-    let limit = settings.limit;
-    let mut k = 0u64;
-    while k < limit {
-        let met = round(nodes, directed, from, to, weight, tolerance, start, wf);
-        k += 1;
-        if met {
-            return Rounds {
-                settings,
-                rounds: k,
-                settled: true,
-            };
-        }
-    }
-    Rounds {
-        settings,
-        rounds: k,
-        settled: false,
-    }
-}
-
 // One round: what the edges make of the vector, over its norm. A tiny norm gives the start value everywhere and stops; else the root of the
 // summed squared change stops, if it is below the tolerance.
-fn round(
-    nodes: usize,
-    directed: bool,
-    from: &[u32],
-    to: &[u32],
-    weight: &[f64],
-    tolerance: f64,
-    start: f64,
-    wf: &mut [f64],
-) -> bool
-    requires { RoundPre nodes from.now to.now weight.now start wf.old }
-    ensures { RoundDone nodes (eigen_step (graph_from nodes directed from.now to.now weight.now) tolerance) (current_in nodes wf.new) wf.old result wf.new }
+fn round(graph: Graph<'_>, tolerance: f64, start: f64, wf: &mut [f64]) -> bool
+    requires { of_edges RoundPre graph start wf.old }
+    ensures { RoundDone graph.entry.nodes (eigen_step (lent_graph graph.entry) tolerance) wf.old result wf.new × (next_in graph.entry.nodes wf.new ≡ current_in graph.entry.nodes wf.new) }
 {
-    spread_edges(nodes, directed, from, to, weight, wf);
+    let nodes = graph.nodes;
+    spread_edges(graph, wf);
     let norm = norm(nodes, wf);
     if norm < TINY {
-        regions::fillf(wf, 0, nodes + nodes, start);
+        regions::fill(wf, 0, nodes + nodes, start);
         return true;
     }
     let change = normalize(nodes, norm, wf);
@@ -170,24 +95,16 @@ fn round(
 }
 
 // Each edge, in list order: next[to] gains weight*current[from]; undirected, with two different ends, then the reverse.
-fn spread_edges(
-    nodes: usize,
-    directed: bool,
-    from: &[u32],
-    to: &[u32],
-    weight: &[f64],
-    wf: &mut [f64],
-)
-    requires { SpreadsPre nodes from.now to.now weight.now wf.old }
-    ensures { Vectors nodes wf.old (current_in nodes wf.old) (foldl (eigen_edge directed (current_in nodes wf.old)) (next_in nodes wf.old) (edges_of from.now to.now weight.now)) wf.new }
+fn spread_edges(graph: Graph<'_>, wf: &mut [f64])
+    requires { of_edges SpreadsPre graph wf.old }
+    ensures { Vectors graph.entry.nodes wf.old (current_in graph.entry.nodes wf.old) (foldl (eigen_edge graph.entry.directed (current_in graph.entry.nodes wf.old)) (next_in graph.entry.nodes wf.old) (edges_of graph.entry.from.now graph.entry.to.now graph.entry.weight.now)) wf.new }
 {
-    let mut i = 0;
-    while i < from.len() {
-        let source = from[i] as usize;
-        let target = to[i] as usize;
-        rounds::spread(nodes, directed, weight[i], target, source, wf);
-        i += 1;
-    }
+    let turned = Graph {
+        from: graph.to,
+        to: graph.from,
+        ..graph
+    };
+    rounds::spread_edges(turned, |weight| weight, wf);
 }
 
 // The root of the summed squares of the next vector.
@@ -195,14 +112,8 @@ fn norm(nodes: usize, wf: &[f64]) -> f64
     requires { nodes + nodes ≤ length wf.now }
     ensures { result ≡ norm_of nodes (next_in nodes wf.now) }
 {
-    let mut sum = 0.0;
-    let mut i = 0;
-    while i < nodes {
-        let next = wf[nodes + i];
-        sum = sum + next * next;
-        i += 1;
-    }
-    roots::sqrt(sum)
+    let next = &wf[nodes..nodes + nodes];
+    roots::sqrt(next.iter().fold(0.0, |sum, y| sum + *y * *y))
 }
 
 // The next vector over its norm becomes both vectors. The summed squared change from the current one.
@@ -211,14 +122,12 @@ fn normalize(nodes: usize, norm: f64, wf: &mut [f64]) -> f64
     ensures { (result ≡ squared_change nodes (current_in nodes wf.old) (scaled nodes norm (next_in nodes wf.old))) × Vectors nodes wf.old (scaled nodes norm (next_in nodes wf.old)) (scaled nodes norm (next_in nodes wf.old)) wf.new }
 {
     let mut sum = 0.0;
-    let mut i = 0;
-    while i < nodes {
+    for i in 0..nodes {
         let next = wf[nodes + i] / norm;
         let change = next - wf[i];
-        sum = sum + change * change;
+        sum += change * change;
         wf[i] = next;
         wf[nodes + i] = next;
-        i += 1;
     }
     sum
 }

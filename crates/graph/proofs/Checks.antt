@@ -1,27 +1,28 @@
--- What a check that passed shows, and the turns of `first_fault` and `first_odd`. Assumes nothing.
+-- What a check that passed shows, the turns of `first_fault`, and what an odd number shows. Assumes nothing.
 use mathlib.Core.Path.{◌≡◌, refl, sym, ap, ◌∙◌}
-use mathlib.Core.Logic.{◌⊎◌, inl, inr}
 use mathlib.Core.Bool.{Bool, true, false, not, ◌||◌, cond, true≢false}
 use mathlib.Core.List.{List, [], ◌∷◌}
 use Prim.Native.Nat.{ℕ, zero, suc, ◌+◌, ◌≤◌, ◌<◌}
-use native.Mathlib.Nat.{not-suc-le-zero, le_of_suc-le-suc, le_trans, eq-or-lt_of_le}
+use native.Mathlib.Nat.{not-suc-le-zero, le_of_suc-le-suc}
 use native.Mathlib.Numerals.{add-one}
 use native.Mathlib.Omega.{arith}
 use borrow.Author.Tests.{ltb-false, ltb-true, lt-ltb, le-ltb, eqb-true, not-false}
 use lib.Dec.{eqb, ltb}
 use lib.ListN.{length, get_or, drop}
-use lib.Seq.{drop-length, drop-cons}
-use lib.Ieee.{Float, nan, inf, fin, lt}
+use lib.Seq.{drop-length}
+use lib.Ieee.{Float, nan, inf, fin}
+use Rattle.std.specs.Float.{float_is_finite}
 use lib.Ieee.Scale.{finite}
 use Rattle.graph.specs.declared.Fault.{Fault}
-use Rattle.graph.specs.declared.Fault.TheVariants.{Nothing, From, To}
-use Rattle.graph.specs.declared.Found.{Found}
-use Rattle.graph.specs.declared.Found.TheVariants as bad
+use Rattle.graph.specs.declared.Fault.TheVariants.{From, To}
+use Rattle.std.specs.Prelude.{Option, Some, None}
+use Rattle.std.specs.List.{list_any}
+use Rattle.std.specs.Option.{is_some}
 use Rattle.graph.specs.declared.Fronts.{Fronts}
 use Rattle.answers.specs.Settings.{node_limit, edge_limit}
 use Rattle.graph.specs.Edges.{Edge, edges_of}
-use Rattle.graph.specs.Checks.{size_wrong, first_fault, some_fault, node_wrong, first_odd, work_wrong}
-use Rattle.graph.specs.Pres.{Sized, AtMost, Limits, Inside, Roomy}
+use Rattle.graph.specs.Checks.{size_wrong, first_fault, some_fault, node_wrong, first_odd, some_found, work_wrong}
+use Rattle.graph.specs.Pres.{Sized, Limits, Inside, Roomy}
 use Rattle.graph.proofs.Edges.{edges_long, edges_at, edges_from_lem, no_edge}
 
 -- a test of several is false when each is
@@ -69,7 +70,7 @@ none_found n (e ∷ es) h k l = by_tests (ltb e.from n) refl (ltb e.to n) refl h
     at f t g zero m = (f, t)
     at f t g (suc j) m = g j (le_of_suc-le-suc m)
 
-    by_tests : (a : Bool) → ltb e.from n ≡ a → (b : Bool) → ltb e.to n ≡ b → some_fault (cond a (cond b (first_fault n es) (To e.at)) (From e.at)) ≡ false
+    by_tests : (a : Bool) → ltb e.from n ≡ a → (b : Bool) → ltb e.to n ≡ b → some_fault (cond a (cond b (first_fault n es) (Some (To e.at))) (Some (From e.at))) ≡ false
         → (some_fault (first_fault n es) ≡ false → (j : ℕ) → j < length es → ((get_or es j no_edge).from < n) × ((get_or es j no_edge).to < n))
         → ((get_or (e ∷ es) k no_edge).from < n) × ((get_or (e ∷ es) k no_edge).to < n)
     by_tests true p true q g r = at (ltb-true _ _ p) (ltb-true _ _ q) (r g) k l
@@ -103,70 +104,45 @@ inside_node n fs ts xs s h = none_wrong n (edges_of fs ts xs) (λ k l. let q : k
 abbrev pub Top : List ℕ → ℕ → ℕ → Type 0
 Top xs i k = (j : ℕ) → j < i → get_or xs j 0 ≤ k
 
-pub top_none : (xs : List ℕ) (k : ℕ) → Top xs 0 k
-top_none xs k j l = absurd (not-suc-le-zero l)
-
-pub top_more : (xs : List ℕ) (i k k' : ℕ) → Top xs i k → k ≤ k' → get_or xs i 0 ≤ k' → Top xs (i + 1) k'
-top_more xs i k k' h a b j l = let q : j ≤ i = omega arith in go (eq-or-lt_of_le q)
-  where
-    go : (j ≡ i) ⊎ (j < i) → get_or xs j 0 ≤ k'
-    go (inl e) = rw e b
-    go (inr m) = le_trans (h j m) a
-
-pub top_all : (xs : List ℕ) (i k : ℕ) → i ≡ length xs → Top xs i k → AtMost xs k
-top_all xs i k e h = record { at = λ j l. h j (omega arith) }
-
 -- ---- the turns of `first_fault`
-module _ (n : ℕ) (fs ts : List ℕ) (xs : List Float) (s : Sized fs ts xs) (o : Fault) (i : ℕ) where
-  abbrev Rest : ℕ → Fault
+module _ (n : ℕ) (fs ts : List ℕ) (xs : List Float) (s : Sized fs ts xs) (o : Option Fault) (i : ℕ) where
+  abbrev Rest : ℕ → Option Fault
   Rest k = first_fault n (drop k (edges_of fs ts xs))
 
-  turn : i < length fs → Rest i ≡ cond (ltb (get_or fs i 0) n) (cond (ltb (get_or ts i 0) n) (Rest (suc i)) (To i)) (From i)
+  turn : i < length fs → Rest i ≡ cond (ltb (get_or fs i 0) n) (cond (ltb (get_or ts i 0) n) (Rest (suc i)) (Some (To i))) (Some (From i))
   unfolding first_fault
   turn l = rw (edges_from_lem fs ts xs i s l)
 
-  pub from_fault : i < length fs → n ≤ get_or fs i 0 → Rest i ≡ o → From i ≡ o
+  pub from_fault : i < length fs → n ≤ get_or fs i 0 → Rest i ≡ o → Some (From i) ≡ o
   from_fault l b e = sym (turn l ∙ rw (le-ltb _ _ b)) ∙ e
 
-  pub to_fault : i < length fs → get_or fs i 0 < n → n ≤ get_or ts i 0 → Rest i ≡ o → To i ≡ o
+  pub to_fault : i < length fs → get_or fs i 0 < n → n ≤ get_or ts i 0 → Rest i ≡ o → Some (To i) ≡ o
   to_fault l a b e = sym (turn l ∙ rw (lt-ltb _ _ a, le-ltb _ _ b)) ∙ e
 
   pub no_fault : i < length fs → get_or fs i 0 < n → get_or ts i 0 < n → Rest i ≡ o → Rest (i + 1) ≡ o
   no_fault l a b e = ap Rest (add-one i) ∙ sym (turn l ∙ rw (lt-ltb _ _ a, lt-ltb _ _ b)) ∙ e
 
-  pub all_passed : i ≡ length fs → Rest i ≡ o → Nothing ≡ o
+  pub all_passed : i ≡ length fs → Rest i ≡ o → None ≡ o
   unfolding first_fault
   all_passed q e = sym (rw (q ∙ sym (edges_long fs ts xs s), drop-length (edges_of fs ts xs))) ∙ e
 
--- ---- the turns of `first_odd`
-module _ (xs : List Float) (o : Found) (i : ℕ) where
-  abbrev Odd : ℕ → Found
-  Odd k = first_odd k (drop k xs)
+-- ---- the first fault, and the first number that is odd
+pub fault_some : (o : Option Fault) → is_some o ≡ some_fault o
+fault_some None = refl
+fault_some (Some f) = refl
 
-  odd_turn : i < length xs → Odd i ≡ cond (finite (get_or xs i nan)) (Odd (suc i)) (bad.At i)
-  unfolding first_odd
-  odd_turn l = rw (drop-cons xs i nan l)
+pub odd_any : (i : ℕ) (xs : List Float) → list_any (λ x. not (finite x)) xs ≡ some_found (first_odd i xs)
+unfolding first_odd
+odd_any i [] = refl
+odd_any i (x ∷ xs) = by_test (finite x) (odd_any (suc i) xs)
+  where
+    by_test : (b : Bool) → list_any (λ y. not (finite y)) xs ≡ some_found (first_odd (suc i) xs) → (not b || list_any (λ y. not (finite y)) xs) ≡ some_found (cond b (first_odd (suc i) xs) (Some i))
+    by_test true e = e
+    by_test false e = refl
 
-  pub odd_here : i < length xs → finite (get_or xs i nan) ≡ false → Odd i ≡ o → bad.At i ≡ o
-  odd_here l b e = sym (odd_turn l ∙ rw b) ∙ e
-
-  pub odd_later : i < length xs → finite (get_or xs i nan) ≡ true → Odd i ≡ o → Odd (i + 1) ≡ o
-  odd_later l b e = ap Odd (add-one i) ∙ sym (odd_turn l ∙ rw b) ∙ e
-
-  pub none_odd : i ≡ length xs → Odd i ≡ o → bad.Nothing ≡ o
-  unfolding first_odd
-  none_odd q e = sym (rw (q, drop-length xs)) ∙ e
-
--- ---- the tests of `is_finite`: below +infinity and above -infinity
-pub finite_below : (x : Float) → lt x (inf false) ≡ true → lt (inf true) x ≡ finite x
-unfolding lt
-finite_below nan e = absurd (true≢false (sym e))
-finite_below (inf true) e = refl
-finite_below (inf false) e = absurd (true≢false (sym e))
-finite_below (fin s m k) e = refl
-
-pub finite_not : (x : Float) → lt x (inf false) ≡ false → false ≡ finite x
-unfolding lt
-finite_not nan e = refl
-finite_not (inf s) e = refl
-finite_not (fin s m k) e = absurd (true≢false e)
+-- ---- std's test of a finite number is the definition's
+pub finite_is : (x : Float) → float_is_finite x ≡ finite x
+unfolding float_is_finite
+finite_is nan = refl
+finite_is (inf s) = refl
+finite_is (fin s m k) = refl

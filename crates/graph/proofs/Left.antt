@@ -1,12 +1,13 @@
 -- Laws of `left`: the two ways through a call; a contract that equates what a call leaves with one value has no second outcome, and
 -- goes over to C's numbers. Assumes nothing.
 use mathlib.Core.Path.{◌≡◌, sym, ap, ◌∙◌}
-use mathlib.Core.Bool.{Bool, true}
 use mathlib.Core.List.{List}
 use Prim.Native.Nat.{ℕ}
 use lib.Ieee.{Float}
-use Rattle.answers.specs.declared.Answer.{Answer}
-use Rattle.answers.specs.Answers.{Said, number_said, refuses, refused_with}
+use Rattle.std.specs.Prelude.{Result, Err}
+use Rattle.answers.specs.declared.Refusal.{Refusal}
+use Rattle.answers.specs.Answers.{Said, number_said, said_by, refused_if}
+use Rattle.answers.proofs.Said.{refused_err}
 use Rattle.graph.specs.Refusals.{Tests, first_refusal}
 use Rattle.graph.specs.Pres.{Passed}
 use Rattle.graph.specs.Given.{Given}
@@ -15,9 +16,9 @@ use Rattle.graph.proofs.Refusals.{passed_done}
 
 -- ---- the two ways through a call
 module _ {Values R : Type 0} (g : Given R) (t : Tests) (did : Left (Said Values) R) where
-  -- a is what the check answered, and b whether that refuses
-  pub refused : {b : Bool} {a : Answer} → a ≡ first_refusal t → b ≡ refuses a → b ≡ true → untouched g (refused_with a) ≡ unless_refused g (first_refusal t) did
-  refused ea eb ef = rw (← ea, sym eb ∙ ef)
+  -- x is what the call returned, the refusal r that its check found
+  pub refused : {x : Result Values Refusal} {r : Refusal} → x ≡ Err r → Err r ≡ refused_if (first_refusal t) → untouched g (said_by x) ≡ unless_refused g (first_refusal t) did
+  refused {x} {r} ex e = let p = refused_err _ r (sym e) in rw (ex, p.1, p.0)
 
   pub went_on : Passed t → did ≡ unless_refused g (first_refusal t) did
   went_on p = rw (passed_done p)

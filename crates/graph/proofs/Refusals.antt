@@ -13,7 +13,10 @@ use lib.ListN.{length, get_or}
 use lib.Ieee.{Float}
 use Rattle.answers.specs.declared.Answer.{Answer}
 use Rattle.answers.specs.declared.Answer.TheVariants.{Done, Empty, Size, Node, Number, Room, Damping, Rounds, Start, Length, Paths, Unsettled, Text}
-use Rattle.answers.specs.Answers.{number_of, refuses}
+use Rattle.std.specs.Prelude.{Ok, Err}
+use Rattle.answers.specs.declared.Refusal.{Refusal}
+use Rattle.answers.specs.Answers.{number_of, refuses, refused_if}
+use Rattle.answers.proofs.Said.{refused_err, refused_ok}
 use Rattle.graph.specs.Edges.{edges_of}
 use Rattle.graph.specs.Given.{Given, edges_in}
 use Rattle.graph.specs.Checks.{size_wrong, node_wrong}
@@ -157,8 +160,8 @@ answer_done Unsettled e = absurd (true≢false e)
 answer_done Text e = absurd (true≢false e)
 
 -- a is what the check answered, and b whether that refuses
-pub passed : (t : Tests) {a : Answer} {b : Bool} → a ≡ first_refusal t → b ≡ refuses a → b ≡ false → Passed t
-passed t {a} {b} ea eb ef =
+passed_by : (t : Tests) {a : Answer} {b : Bool} → a ≡ first_refusal t → b ≡ refuses a → b ≡ false → Passed t
+passed_by t {a} {b} ea eb ef =
     let h = (done_exactly t).0 (sym ea ∙ answer_done a (sym eb ∙ ef)) in
     record {
       size = h 0 (omega arith);
@@ -171,6 +174,10 @@ passed t {a} {b} ea eb ef =
       start = h 7 (omega arith);
       room = h 8 (omega arith);
     }
+
+-- the check let the call pass
+pub passed : (t : Tests) {v : Unit {0}} → Ok v ≡ refused_if (first_refusal t) → Passed t
+passed t {v} e = passed_by t refl refl (refused_ok _ v (sym e))
 
 pub passed_done : {t : Tests} → Passed t → first_refusal t ≡ Done
 unfolding first_refusal first_of
@@ -222,14 +229,22 @@ late_rows false false true none h = absurd (true≢false h)
 late_rows false false false none h = (refl, refl, refl)
 
 -- a is what `graph_refusal` answered, and b whether that refuses: if it does, it is the first of all
-pub early : (t : Tests) {a : Answer} {b : Bool} → a ≡ first_refusal (graph_part t) → b ≡ refuses a → b ≡ true → a ≡ first_refusal t
+early : (t : Tests) {a : Answer} {b : Bool} → a ≡ first_refusal (graph_part t) → b ≡ refuses a → b ≡ true → a ≡ first_refusal t
 unfolding first_refusal first_of
 early t ea eb et = ea ∙ early_rows t.size t.empty t.node (later_rows t) (later_rows (graph_part t)) refl (ap refuses (sym ea) ∙ sym eb ∙ et)
 
 -- if it doesn't, none of the three rows holds
-pub late : (t : Tests) {a : Answer} {b : Bool} → a ≡ first_refusal (graph_part t) → b ≡ refuses a → b ≡ false → (t.size ≡ false) × (t.empty ≡ false) × (t.node ≡ false)
+late : (t : Tests) {a : Answer} {b : Bool} → a ≡ first_refusal (graph_part t) → b ≡ refuses a → b ≡ false → (t.size ≡ false) × (t.empty ≡ false) × (t.node ≡ false)
 unfolding first_refusal
 late t ea eb ef = late_rows t.size t.empty t.node (later_rows (graph_part t)) (ap refuses (sym ea) ∙ sym eb ∙ ef)
+
+-- the check of the graph alone refused: so does the whole
+pub early_err : (t : Tests) {r : Refusal} → Err r ≡ refused_if (first_refusal (graph_part t)) → Err r ≡ refused_if (first_refusal t)
+early_err t {r} e = let p = refused_err _ r (sym e) in e ∙ ap refused_if (early t refl refl p.0)
+
+-- it let the call pass
+pub late_ok : (t : Tests) {v : Unit {0}} → Ok v ≡ refused_if (first_refusal (graph_part t)) → (t.size ≡ false) × (t.empty ≡ false) × (t.node ≡ false)
+late_ok t {v} e = late t refl refl (refused_ok _ v (sym e))
 
 -- SIZE and NODE did not refuse: the graph is sound
 pub sound : (n : ℕ) (from to : List ℕ) (weight : List Float) → size_wrong n from to weight ≡ false → node_wrong n (edges_of from to weight) ≡ false → Sound n from to weight

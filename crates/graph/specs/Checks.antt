@@ -1,10 +1,8 @@
 -- When a graph, a number or the room is refused: the sentences of document 01's table, each as a test. Definitions only.
-use Rattle.std.specs.Prelude.{Bool, true, false, not, ◌||◌, cond, List, [], ◌∷◌, ℕ, suc, eqb, ltb, length, Float}
+use Rattle.std.specs.Prelude.{Bool, true, false, not, ◌||◌, cond, List, [], ◌∷◌, ℕ, suc, eqb, ltb, length, Float, Option, Some, None}
 use Rattle.std.specs.Float.Ieee.Scale.{finite}
 use Rattle.graph.specs.declared.Fault.{Fault}
-use Rattle.graph.specs.declared.Fault.TheVariants.{Nothing, From, To}
-use Rattle.graph.specs.declared.Found.{Found}
-use Rattle.graph.specs.declared.Found.TheVariants as bad
+use Rattle.graph.specs.declared.Fault.TheVariants.{From, To}
 use Rattle.graph.specs.declared.Fronts.{Fronts}
 use Rattle.answers.specs.Settings.{node_limit, edge_limit}
 use Rattle.graph.specs.Edges.{Edge}
@@ -18,29 +16,28 @@ size_wrong n from to weight =
     || not (eqb (length weight) (length from))
 
 -- the first of the edges with an end that is n or more, its from before its to
-unfoldable pub first_fault : ℕ → List Edge → Fault
-first_fault n [] = Nothing
-first_fault n (e ∷ es) = cond (ltb e.from n) (cond (ltb e.to n) (first_fault n es) (To e.at)) (From e.at)
+unfoldable pub first_fault : ℕ → List Edge → Option Fault
+first_fault n [] = None
+first_fault n (e ∷ es) = cond (ltb e.from n) (cond (ltb e.to n) (first_fault n es) (Some (To e.at))) (Some (From e.at))
 
 -- whether there is one
-abbrev pub some_fault : Fault → Bool
-some_fault Nothing = false
-some_fault (From i) = true
-some_fault (To i) = true
+abbrev pub some_fault : Option Fault → Bool
+some_fault None = false
+some_fault (Some f) = true
 
 -- NODE: an endpoint is n or more
 unfoldable pub node_wrong : ℕ → List Edge → Bool
 node_wrong n es = some_fault (first_fault n es)
 
 -- the first of the numbers, counted from i, that is an infinity or a NaN
-unfoldable pub first_odd : ℕ → List Float → Found
-first_odd i [] = bad.Nothing
-first_odd i (x ∷ xs) = cond (finite x) (first_odd (suc i) xs) (bad.At i)
+unfoldable pub first_odd : ℕ → List Float → Option ℕ
+first_odd i [] = None
+first_odd i (x ∷ xs) = cond (finite x) (first_odd (suc i) xs) (Some i)
 
 -- whether there is one
-abbrev pub some_found : Found → Bool
-some_found bad.Nothing = false
-some_found (bad.At i) = true
+abbrev pub some_found : Option ℕ → Bool
+some_found None = false
+some_found (Some i) = true
 
 -- NUMBER, for the numbers of a slice: one is an infinity or a NaN
 unfoldable pub number_wrong : List Float → Bool

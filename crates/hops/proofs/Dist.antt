@@ -6,9 +6,9 @@ use mathlib.Core.Bool.{Bool, true, false, not, ◌&&◌}
 use mathlib.Core.List.{Memᴰ}
 use Prim.Native.Nat.{ℕ, zero, suc, ◌+◌, ◌-◌, ◌*◌, ◌≤◌, ◌<◌}
 use native.Mathlib.Nat.{zero-mul, mul-one, mul_comm, eq-zero-or-pos}
-use native.Mathlib.Decide.{dec_le}
 use native.Mathlib.Omega.{arith}
 use lib.Dec.{eqb}
+use Rattle.regions.proofs.Cases.{below_or_not}
 use Rattle.graph.specs.Edges.{Graph, entries}
 use Rattle.hops.specs.Sum.{sum_over, below, same, only_if, times}
 use Rattle.hops.specs.Hops.{EndsIn, Valid, unreached, walks, seek, dist, count, turned}
@@ -73,21 +73,14 @@ mul_pos_right : (x y : ℕ) → 0 < x * y → 0 < y
 mul_pos_right x y h = mul_pos_left y x (rw (mul_comm y x) h)
 
 same_le_one : (m x : ℕ) → sum_over (below m) (λ k. same x k) ≤ 1
-same_le_one m x = go (le_or_lt m x)
+same_le_one m x = go (below_or_not x m)
   where
-    le_or_lt : (i j : ℕ) → (i ≤ j) ⊎ (j < i)
-    le_or_lt i j = pick (dec_le i j)
-      where
-        pick : Dec (i ≤ j) → (i ≤ j) ⊎ (j < i)
-        pick (yes p) = inl p
-        pick (no q) = inr (omega arith)
-
     one : sum_over (below m) (λ k. same x k) ≡ sum_over (below m) (λ k. same x k * 1)
     one = sum_cong (below m) (λ k. sym (mul-one (same x k)))
 
-    go : (m ≤ x) ⊎ (x < m) → sum_over (below m) (λ k. same x k) ≤ 1
-    go (inl h) = omega (arith, one ∙ none_below m x (λ v. 1) h)
-    go (inr h) = omega (arith, one ∙ sum_same m x (λ v. 1) h)
+    go : (x < m) ⊎ (m ≤ x) → sum_over (below m) (λ k. same x k) ≤ 1
+    go (inl h) = omega (arith, one ∙ sum_same m x (λ v. 1) h)
+    go (inr h) = omega (arith, one ∙ none_below m x (λ v. 1) h)
 
 module _ (g : Graph) (ok : EndsIn g.nodes g.edges) where
   -- a node at which a fewest hop sequence stands after i of its i + j hops is at the fewest hops i from its start, and j from its end

@@ -1,15 +1,16 @@
 -- A visit's walk over the entries of its node: what holds at each of them, and at the end. Assumes nothing.
 use mathlib.Core.Path.{◌≡◌, refl, sym, ap, ◌∙◌, subst}
-use mathlib.Core.Bool.{true, false}
 use mathlib.Core.List.{List}
 use Prim.Native.Nat.{ℕ, ◌+◌, ◌-◌, ◌≤◌, ◌<◌}
 use native.Mathlib.Omega.{arith}
+use Rattle.std.specs.Prelude.{Result, Ok}
 use lib.ListN.{length, get_or}
 use Rattle.graph.specs.Edges.{Graph, entries}
 use Rattle.hops.specs.declared.Step.{Step}
-use Rattle.hops.specs.declared.Step.TheVariants.{First, Again, Other, Paths}
+use Rattle.hops.specs.declared.Step.TheVariants.{First, Again, Other}
+use Rattle.hops.specs.declared.TooManyPaths.{TooManyPaths}
 use Rattle.hops.specs.Hops.{unreached}
-use Rattle.hops.specs.Search.{Kept, Search, TooMany, Visiting, TouchPre, Touched, grown, too_many}
+use Rattle.hops.specs.Search.{Kept, Search, TooMany, Visiting, TouchPre, Exceeded, Touched, grown}
 use Rattle.hops.proofs.Search.{front, kept_none, kept_then, before_tail, node_lt, node_near, tail_most, touch_pre, step, paths, step_kept, node_kept}
 
 -- the rows are as they were
@@ -63,30 +64,30 @@ module _ {g : Graph} {limit s D Q head : ℕ} {w₀ c₀ : List ℕ} {u further 
     pub scan_pre : TouchPre (get_or w p 0) ways limit D place w c
     scan_pre = touch_pre N.search more {further = further} entry_is N.far N.has N.free
 
-    module _ (w' c' : List ℕ) (r : Step) (T : Touched (get_or w p 0) further ways limit D place w c w' c' r) where
-      one_kept : Kept g.nodes D Q w c w' c'
-      one_kept = step_kept N.search more entry_is N.far N.has N.free w' c' r T
+    module _ (w' c' : List ℕ) where
+      one_kept : (r : Result Step TooManyPaths) → Touched (get_or w p 0) further ways limit D place w c w' c' r → Kept g.nodes D Q w c w' c'
+      one_kept r T = step_kept N.search more entry_is N.far N.has N.free w' c' r T
 
-      pub scan_kept : Kept g.nodes D Q w₀ c₀ w' c'
-      scan_kept = kept_then N.kept one_kept
+      pub scan_kept : (r : Result Step TooManyPaths) → Touched (get_or w p 0) further ways limit D place w c w' c' r → Kept g.nodes D Q w₀ c₀ w' c'
+      scan_kept r T = kept_then N.kept (one_kept r T)
 
-      pub scan_step : (k : ℕ) → k ≡ grown r → too_many r ≡ false → Scan g limit s D Q head w₀ c₀ u further ways w' c' (p + 1) (place + k)
-      scan_step k ek e =
-          let n = node_kept N.search more entry_is N.far N.has N.free w' c' r T in
+      pub scan_step : (t : Step) → Touched (get_or w p 0) further ways limit D place w c w' c' (Ok t) → (k : ℕ) → k ≡ grown t → Scan g limit s D Q head w₀ c₀ u further ways w' c' (p + 1) (place + k)
+      scan_step t T k ek =
+          let n = node_kept N.search more entry_is N.far N.has N.free w' c' (Ok t) T in
           record {
             j = N.j + 1;
-            tail = N.tail + grown r;
-            at = omega (arith, N.at, kept_low one_kept (omega (arith, N.search.space.apart)) u (omega (arith, front N.search.space, node_lt N.search)));
+            tail = N.tail + grown t;
+            at = omega (arith, N.at, kept_low (one_kept (Ok t) T) (omega (arith, N.search.space.apart)) u (omega (arith, front N.search.space, node_lt N.search)));
             most = omega (arith, more);
             free = omega (arith, N.free, ek);
             far = N.far ∙ ap (λ (d : ℕ). d + 1) (sym n.0);
             has = N.has ∙ sym n.1;
-            search = step N.search more entry_is N.far N.has N.free w' c' r T e;
-            kept = scan_kept;
+            search = step N.search more entry_is N.far N.has N.free w' c' t T;
+            kept = scan_kept (Ok t) T;
           }
 
-      pub scan_paths : too_many r ≡ true → TooMany g limit s
-      scan_paths e = paths N.search more entry_is N.far N.has N.free w' c' r T e
+      pub scan_paths : Exceeded (get_or w p 0) further ways limit D w c w' c' → TooMany g limit s
+      scan_paths T = paths N.search more entry_is N.far N.has N.free w' c' T
 
   -- the next place of the queue is in the workspace or at its end
   pub place_fits : place ≤ length w
@@ -128,8 +129,7 @@ begun {n} {limit} {D} {Q} {head} {tail} {w} {c} at =
       place = omega (arith, tail_most S, H.room);
     }
 
-pub grown_most : (r : Step) → grown r ≤ 1
+pub grown_most : (t : Step) → grown t ≤ 1
 grown_most First = omega arith
 grown_most Again = omega arith
 grown_most Other = omega arith
-grown_most Paths = omega arith

@@ -1,9 +1,9 @@
 -- The search over the workspace: its beginning, its step at one entry, the next node of the queue, its end. Assumes nothing.
 use mathlib.Core.Path.{◌≡◌, refl, sym, ap, ◌∙◌, subst}
 use mathlib.Core.Logic.{◌≢◌, ◌⊎◌, inl, inr}
-use mathlib.Core.Bool.{true, false, false≢true}
 use mathlib.Core.List.{List, [], ◌∷◌, ◌++◌, append_assoc, Memᴰ}
 use Prim.Native.Nat.{ℕ, zero, suc, ◌+◌, ◌≤◌, ◌<◌}
+use Rattle.std.specs.Prelude.{Result, Ok, Err}
 use native.Mathlib.Nat.{add-zero}
 use native.Mathlib.Numerals.{add-one}
 use native.Mathlib.Omega.{arith}
@@ -15,10 +15,11 @@ use Rattle.regions.proofs.Parts.{list_at_lem}
 use Rattle.regions.proofs.Frames.{frame2_none, frame2_then, frame2_set_left, frame2_set_right}
 use Rattle.graph.specs.Edges.{Graph, entries}
 use Rattle.hops.specs.declared.Step.{Step}
-use Rattle.hops.specs.declared.Step.TheVariants.{First, Again, Other, Paths}
+use Rattle.hops.specs.declared.Step.TheVariants.{First, Again, Other}
+use Rattle.hops.specs.declared.TooManyPaths.{TooManyPaths}
 use Rattle.hops.specs.Sum.{sum_over, same, times}
 use Rattle.hops.specs.Hops.{unreached, dist, count}
-use Rattle.hops.specs.Search.{Mid, cells, places, RowsOf, Space, Fresh, BeginPre, Begun, Kept, Search, Found, TooMany, TouchPre, FoundFirst, FoundAgain, PassedOver, Touched, grown, too_many}
+use Rattle.hops.specs.Search.{Mid, cells, places, RowsOf, Space, Fresh, BeginPre, Begun, Kept, Search, Found, TooMany, TouchPre, FoundFirst, FoundAgain, PassedOver, Exceeded, Touched, grown}
 use Rattle.hops.proofs.Sums.{eq_or_ne, not_long}
 use Rattle.hops.proofs.Walks.{entry_lt}
 use Rattle.hops.proofs.Labels.{Labels, labels_dist, labels_count}
@@ -267,15 +268,14 @@ module _ {g : Graph} {limit s : ℕ} {w c : List ℕ} {D Q head tail u j : ℕ} 
               }
 
       -- the entry is looked at, and the limit not exceeded
-      pub step : (r : Step) → Touched x further ways limit D place w c w' c' r → too_many r ≡ false → Search g limit s w' c' D Q head (tail + grown r) u (j + 1)
-      step First T e = step_first T
-      step Again T e = subst (λ (t : ℕ). Search g limit s w' c' D Q head t u (j + 1)) (sym (add-zero tail)) (step_again T)
-      step Other T e = subst (λ (t : ℕ). Search g limit s w' c' D Q head t u (j + 1)) (sym (add-zero tail)) (step_other T)
-      step Paths T e = absurd (false≢true (sym e))
+      pub step : (t : Step) → Touched x further ways limit D place w c w' c' (Ok t) → Search g limit s w' c' D Q head (tail + grown t) u (j + 1)
+      step First T = step_first T
+      step Again T = subst (λ (t : ℕ). Search g limit s w' c' D Q head t u (j + 1)) (sym (add-zero tail)) (step_again T)
+      step Other T = subst (λ (t : ℕ). Search g limit s w' c' D Q head t u (j + 1)) (sym (add-zero tail)) (step_other T)
 
       -- the limit is exceeded: so is it by the number of fewest hop sequences to x
-      pub paths : (r : Step) → Touched x further ways limit D place w c w' c' r → too_many r ≡ true → TooMany g limit s
-      paths Paths T e =
+      pub paths : Exceeded x further ways limit D w c w' c' → TooMany g limit s
+      paths T =
           record {
             node = x;
             inside = entry_node;
@@ -288,39 +288,36 @@ module _ {g : Graph} {limit s : ℕ} {w c : List ℕ} {D Q head tail u j : ℕ} 
                   ways_most S.space.valid S.space.start (mid_grow T.was T.known) (λ v. take_times (j + 1) (entries g u) v) (get_or w (D + x) 0) x entry_node refl (λ z. T.known (sym T.was ∙ z)),
                 );
           }
-      paths First T e = absurd (false≢true e)
-      paths Again T e = absurd (false≢true e)
-      paths Other T e = absurd (false≢true e)
 
       -- what else `touch` may have changed: nothing but distances, the queue and counts
-      pub step_kept : (r : Step) → Touched x further ways limit D place w c w' c' r → Kept g.nodes D Q w c w' c'
-      step_kept First T =
+      pub step_kept : (r : Result Step TooManyPaths) → Touched x further ways limit D place w c w' c' r → Kept g.nodes D Q w c w' c'
+      step_kept (Ok First) T =
           record {
             narrow = subst (λ (t : List ℕ). Frame2 w D g.nodes Q g.nodes t) (sym T.stored) (frame2_set_right place x (frame2_set_left (D + x) further (frame2_none w D g.nodes Q g.nodes) (omega arith) (omega (arith, entry_node))) (omega arith) (omega (arith, place_in T.was)));
             wide = subst (λ (t : List ℕ). Front c g.nodes t) (sym T.counted) (front_set x ways (front_none c g.nodes) entry_node);
           }
-      step_kept Again T =
+      step_kept (Ok Again) T =
           record {
             narrow = subst (λ (t : List ℕ). Frame2 w D g.nodes Q g.nodes t) (sym T.same) (frame2_none w D g.nodes Q g.nodes);
             wide = subst (λ (t : List ℕ). Front c g.nodes t) (sym T.counted) (front_set x (get_or c x 0 + ways) (front_none c g.nodes) entry_node);
           }
-      step_kept Other T = unchanged T.same T.counts
-      step_kept Paths T = unchanged T.same T.counts
+      step_kept (Ok Other) T = unchanged T.same T.counts
+      step_kept (Err e) T = unchanged T.same T.counts
 
       -- the node itself keeps its distance and its count
-      pub node_kept : (r : Step) → Touched x further ways limit D place w c w' c' r → (get_or w' (D + u) 0 ≡ get_or w (D + u) 0) × (get_or c' u 0 ≡ get_or c u 0)
-      node_kept First T =
+      pub node_kept : (r : Result Step TooManyPaths) → Touched x further ways limit D place w c w' c' r → (get_or w' (D + u) 0 ≡ get_or w (D + u) 0) × (get_or c' u 0 ≡ get_or c u 0)
+      node_kept (Ok First) T =
           let n : u ≢ x = λ e. node_labelled (ap (cells w D) e ∙ T.was) in (
             ap (λ (t : List ℕ). get_or t (D + u) 0) T.stored
                 ∙ miss (set w (D + x) further) place x (D + u) (λ e. omega (arith, node_lt, S.space.apart))
                 ∙ miss w (D + x) further (D + u) (λ e. n (omega arith)),
             ap (λ (t : List ℕ). get_or t u 0) T.counted ∙ miss c x ways u n,
           )
-      node_kept Again T =
+      node_kept (Ok Again) T =
           let n : u ≢ x = λ e. omega (arith, ap (cells w D) e, T.was, far) in
           (ap (λ (t : List ℕ). get_or t (D + u) 0) T.same, ap (λ (t : List ℕ). get_or t u 0) T.counted ∙ miss c x (get_or c x 0 + ways) u n)
-      node_kept Other T = (ap (λ (t : List ℕ). get_or t (D + u) 0) T.same, ap (λ (t : List ℕ). get_or t u 0) T.counts)
-      node_kept Paths T = (ap (λ (t : List ℕ). get_or t (D + u) 0) T.same, ap (λ (t : List ℕ). get_or t u 0) T.counts)
+      node_kept (Ok Other) T = (ap (λ (t : List ℕ). get_or t (D + u) 0) T.same, ap (λ (t : List ℕ). get_or t u 0) T.counts)
+      node_kept (Err e) T = (ap (λ (t : List ℕ). get_or t (D + u) 0) T.same, ap (λ (t : List ℕ). get_or t u 0) T.counts)
 
 -- ---- from node to node
 

@@ -5,34 +5,27 @@ use mathlib.Core.Bool.{Bool, true, false}
 use mathlib.Core.List.{List, [], ◌∷◌, ◌++◌, Memᴰ}
 use Prim.Native.Nat.{ℕ, zero, suc, ◌+◌, ◌*◌, ◌≤◌, ◌<◌}
 use native.Mathlib.Nat.{add-zero, zero-add, add_assoc, zero-mul, mul-one, one-mul, add-mul, eq-zero-or-pos}
-use native.Mathlib.Decide.{ℕ_discrete}
 use native.Mathlib.Omega.{arith}
-use lib.Dec.{T, eqb, eqb→eq, eqb_refl}
+use Rattle.std.proofs.lemmas.Bool.{eq-eqb, ne_eqb}
+use lib.Dec.{T, eqb}
 use lib.ListN.{length}
+use Rattle.regions.proofs.Cases.{same_or_not}
 use Rattle.hops.specs.Sum.{sum_over, below, only_if, same, times}
 
 -- ---- tests
 
 pub eq_or_ne : (x y : ℕ) → (x ≡ y) ⊎ (x ≢ y)
-eq_or_ne x y = go (ℕ_discrete x y)
-  where
-    go : Dec (x ≡ y) → (x ≡ y) ⊎ (x ≢ y)
-    go (yes p) = inl p
-    go (no q) = inr q
+eq_or_ne x y = same_or_not x y
 
 pub T_true : (b : Bool) → T b → b ≡ true
 T_true true t = refl
 T_true false t = absurd t
 
-pub not_true : (b : Bool) → (T b → ⊥) → b ≡ false
-not_true true f = absurd (f tt)
-not_true false f = refl
-
 pub eqb_yes : {x y : ℕ} → x ≡ y → eqb x y ≡ true
-eqb_yes {x} {y} p = T_true (eqb x y) (subst (λ (z : ℕ). T (eqb x z)) p (eqb_refl x))
+eqb_yes {x} {y} p = eq-eqb x y p
 
 pub eqb_no : {x y : ℕ} → x ≢ y → eqb x y ≡ false
-eqb_no {x} {y} q = not_true (eqb x y) (λ t. q (eqb→eq x y t))
+eqb_no {x} {y} q = ne_eqb x y q
 
 pub same_yes : {x y : ℕ} → x ≡ y → same x y ≡ 1
 unfolding same

@@ -1,12 +1,13 @@
 -- What holds within a breadth-first search (Brandes 2001): of its labels, its queue, and the workspace that holds them. Definitions only.
-use Rattle.std.specs.Prelude.{◌≡◌, ◌≢◌, Bool, true, false, not, ℕ, ◌+◌, ◌*◌, ◌≤◌, ◌<◌, eqb, length, get_or, set, take}
+use Rattle.std.specs.Prelude.{◌≡◌, ◌≢◌, Bool, not, ℕ, ◌+◌, ◌*◌, ◌≤◌, ◌<◌, eqb, length, get_or, set, take, Result, Ok, Err}
 use mathlib.Core.List.{List, [], ◌∷◌, ◌++◌, Memᴰ}
 use Rattle.regions.specs.Region.{list_of, Front, Frame2}
 use Rattle.graph.specs.Edges.{Edge, Graph, entries}
+use Rattle.graph.specs.Layout.{distances_at, queue_at}
+use Rattle.hops.specs.declared.Places.{Places}
 use Rattle.hops.specs.declared.Step.{Step}
-use Rattle.hops.specs.declared.Step.TheVariants.{First, Again, Other, Paths}
-use Rattle.hops.specs.declared.Reached.{Reached}
-use Rattle.hops.specs.declared.Reached.TheVariants as reached
+use Rattle.hops.specs.declared.Step.TheVariants.{First, Again, Other}
+use Rattle.hops.specs.declared.TooManyPaths.{TooManyPaths}
 use Rattle.hops.specs.Sum.{sum_over, only_if, same, times}
 use Rattle.hops.specs.Hops.{unreached, Valid, dist, count}
 
@@ -67,6 +68,10 @@ places c = λ v. get_or c v 0
 -- a graph of n nodes
 abbrev pub graph_of : ℕ → Bool → List Edge → Graph
 graph_of n directed es = record { nodes = n; directed = directed; edges = es }
+
+-- where a search of a call with n nodes and m edges works, up to a limit
+abbrev pub places_at : (n m limit : ℕ) → Places
+places_at n m limit = record { nodes = n; limit = limit; distances = distances_at n m; queue = queue_at n m }
 
 -- the rows of g stand in w before `top`: n + 1 offsets, and the entries behind them
 pub record RowsOf (g : Graph) (w : List ℕ) (top : ℕ) : Type 0 where
@@ -172,25 +177,17 @@ pub record Exceeded (x further ways limit D : ℕ) (w c w' c' : List ℕ) : Type
   pub more : limit < get_or c x 0 + ways
 
 -- what `touch` leaves, by what it answers
-abbrev pub Touched : (x further ways limit D place : ℕ) (w c w' c' : List ℕ) → Step → Type 0
-Touched x further ways limit D place w c w' c' First = FoundFirst x further ways D place w c w' c'
-Touched x further ways limit D place w c w' c' Again = FoundAgain x further ways limit D w c w' c'
-Touched x further ways limit D place w c w' c' Other = PassedOver x further D w c w' c'
-Touched x further ways limit D place w c w' c' Paths = Exceeded x further ways limit D w c w' c'
+abbrev pub Touched : (x further ways limit D place : ℕ) (w c w' c' : List ℕ) → Result Step TooManyPaths → Type 0
+Touched x further ways limit D place w c w' c' (Ok First) = FoundFirst x further ways D place w c w' c'
+Touched x further ways limit D place w c w' c' (Ok Again) = FoundAgain x further ways limit D w c w' c'
+Touched x further ways limit D place w c w' c' (Ok Other) = PassedOver x further D w c w' c'
+Touched x further ways limit D place w c w' c' (Err e) = Exceeded x further ways limit D w c w' c'
 
 -- by how much the queue has grown
 abbrev pub grown : Step → ℕ
 grown First = 1
 grown Again = 0
 grown Other = 0
-grown Paths = 0
-
--- the limit was exceeded
-abbrev pub too_many : Step → Bool
-too_many First = false
-too_many Again = false
-too_many Other = false
-too_many Paths = true
 
 -- ---- the loops
 
@@ -202,23 +199,23 @@ pub record Visiting (n limit D Q head tail : ℕ) (w c : List ℕ) : Type 0 wher
   pub search : Search (graph_of n directed edges) limit start w c D Q head tail (get_or w (Q + head) 0) 0
 
 -- the node u has been visited: its entries are all looked at, or a count exceeds the limit
-abbrev pub Visited : Graph → (limit s D Q head u : ℕ) (w' c' : List ℕ) → Reached → Type 0
-Visited g limit s D Q head u w' c' (reached.Nodes tail) = Search g limit s w' c' D Q head tail u (length (entries g u))
-Visited g limit s D Q head u w' c' reached.Paths = TooMany g limit s
+abbrev pub Visited : Graph → (limit s D Q head u : ℕ) (w' c' : List ℕ) → Result ℕ TooManyPaths → Type 0
+Visited g limit s D Q head u w' c' (Ok tail) = Search g limit s w' c' D Q head tail u (length (entries g u))
+Visited g limit s D Q head u w' c' (Err e) = TooMany g limit s
 
 -- what a visit leaves, of every graph and start whose search it goes on with
-pub record VisitPost (n limit D Q head tail : ℕ) (w c w' c' : List ℕ) (r : Reached) : Type 0 where
+pub record VisitPost (n limit D Q head tail : ℕ) (w c w' c' : List ℕ) (r : Result ℕ TooManyPaths) : Type 0 where
   pub kept : Kept n D Q w c w' c'
   pub visited : (directed : Bool) (es : List Edge) (s : ℕ) → Search (graph_of n directed es) limit s w c D Q head tail (get_or w (Q + head) 0) 0
       → Visited (graph_of n directed es) limit s D Q head (get_or w (Q + head) 0) w' c' r
 
 -- a search is over, or a count exceeds the limit
-abbrev pub Ended : Graph → (limit s D Q : ℕ) (w' c' : List ℕ) → Reached → Type 0
-Ended g limit s D Q w' c' (reached.Nodes tail) = Found g limit s w' c' D Q tail
-Ended g limit s D Q w' c' reached.Paths = TooMany g limit s
+abbrev pub Ended : Graph → (limit s D Q : ℕ) (w' c' : List ℕ) → Result ℕ TooManyPaths → Type 0
+Ended g limit s D Q w' c' (Ok tail) = Found g limit s w' c' D Q tail
+Ended g limit s D Q w' c' (Err e) = TooMany g limit s
 
 -- what the visits leave from the start on, of every graph and start
-pub record OnPost (n limit D Q : ℕ) (w c w' c' : List ℕ) (r : Reached) : Type 0 where
+pub record OnPost (n limit D Q : ℕ) (w c w' c' : List ℕ) (r : Result ℕ TooManyPaths) : Type 0 where
   pub kept : Kept n D Q w c w' c'
   pub ended : (directed : Bool) (es : List Edge) (s : ℕ) → Search (graph_of n directed es) limit s w c D Q 0 1 (get_or w (Q + 0) 0) 0
       → Ended (graph_of n directed es) limit s D Q w' c' r
@@ -232,7 +229,7 @@ pub record SearchPre (n s limit D Q : ℕ) (w c : List ℕ) : Type 0 where
   pub some : 1 ≤ limit
 
 -- what the whole search leaves, of every graph whose rows stand in w
-pub record SearchPost (n s limit D Q : ℕ) (w c w' c' : List ℕ) (r : Reached) : Type 0 where
+pub record SearchPost (n s limit D Q : ℕ) (w c w' c' : List ℕ) (r : Result ℕ TooManyPaths) : Type 0 where
   pub kept : Kept n D Q w c w' c'
   pub ended : (directed : Bool) (es : List Edge) → Space (graph_of n directed es) s w c D Q → Ended (graph_of n directed es) limit s D Q w' c' r
 

@@ -3,9 +3,10 @@
 use mathlib.Core.Path.{◌≡◌, refl, sym, ◌∙◌}
 use mathlib.Core.Bool.{Bool, true, false, cond}
 use mathlib.Core.List.{List, map}
+use Rattle.std.specs.Prelude.{Result, Ok, Err}
 use Prim.Native.Nat.{ℕ, ◌≤◌, ◌<◌}
 use native.Mathlib.Omega.{arith}
-use lib.ListN.{length, take, length-take}
+use lib.ListN.{length}
 use lib.Dec.{ltb}
 use borrow.Author.Tests.{lt-ltb, le-ltb, ltb-false}
 use Rattle.text.specs.Written.{Written}
@@ -13,23 +14,17 @@ use Rattle.answers.specs.declared.Answer.TheVariants.{Size, Room, Text}
 use Rattle.answers.specs.Answers.{done, refused_with, number_of}
 use Rattle.answers.specs.Settings.{job_node_limit, job_edge_limit}
 use Rattle.reader.specs.declared.Head.{Head}
-use Rattle.reader.specs.declared.Job.{Job}
-use Rattle.reader.specs.declared.Job.TheVariants.{Asked, Fault}
+use Rattle.lines.specs.declared.FaultyLine.{FaultyLine}
 use Rattle.reader.specs.Edges.{from_of, to_of, bits_of}
 use Rattle.reader.specs.Job.{job_of, edges_of}
 use Rattle.reply.specs.Reply.{refusal_text}
 use Rattle.outcomes.specs.Texts.{output_room}
 use Rattle.scoring.specs.Scored.{scored_text, on_zeros, doubles}
-use Rattle.ran.specs.Ran.{run_left}
-use Rattle.job.specs.Run.{input_limit, run_outcome, head_answer, answer_of}
+use Rattle.job.specs.Run.{input_limit, run_left, run_outcome, head_answer, answer_of}
 
 -- the same text, written
 pub as_written : {text text' before after : List ℕ} {r : ℕ} → text ≡ text' → Written text' before 0 after r → Written text before 0 after r
 as_written e w = rw e w
-
--- no more edges are taken than a job may have
-pub taken_few : (m : ℕ) (bits : List ℕ) → m ≤ job_edge_limit → length (take m bits) ≤ job_edge_limit
-taken_few m bits h = omega (arith, length-take m bits)
 
 module _ (head : Head) (from to bits : List ℕ) where
   pub too_many_nodes : job_node_limit < head.top.nodes → head_answer head from to bits ≡ refusal_text (number_of Size) 0
@@ -63,11 +58,11 @@ module _ (input : List ℕ) where
   unfolding answer_of
   too_long h = rw (lt-ltb input_limit (length input) h)
 
-  pub a_fault : {job : Job} {line : ℕ} → length input ≤ input_limit → job ≡ job_of input → job ≡ Fault line → answer_of input ≡ refusal_text (number_of Text) line
+  pub a_fault : {job : Result Head FaultyLine} {line : FaultyLine} → length input ≤ input_limit → job ≡ job_of input → job ≡ Err line → answer_of input ≡ refusal_text (number_of Text) line.number
   unfolding answer_of
   a_fault h j e = rw (le-ltb input_limit (length input) h, sym j ∙ e)
 
-  pub a_job : {job : Job} {head : Head} → length input ≤ input_limit → job ≡ job_of input → job ≡ Asked head → answer_of input ≡ head_answer head (map from_of (edges_of input).given) (map to_of (edges_of input).given) (map bits_of (edges_of input).given)
+  pub a_job : {job : Result Head FaultyLine} {head : Head} → length input ≤ input_limit → job ≡ job_of input → job ≡ Ok head → answer_of input ≡ head_answer head (map from_of (edges_of input).given) (map to_of (edges_of input).given) (map bits_of (edges_of input).given)
   unfolding answer_of
   a_job h j e = rw (le-ltb input_limit (length input) h, sym j ∙ e)
 

@@ -1,17 +1,16 @@
 -- The program's whole work: the answer's text of any bytes, and what a call of `run` leaves.
 -- Definitions only. Document 01, "The command program".
-use Rattle.std.specs.Prelude.{cond, List, map, ℕ, ltb, length}
+use Rattle.std.specs.Prelude.{cond, List, map, ℕ, ltb, length, Result, Ok, Err}
 use Rattle.std.proofs.lemmas.List.Edits.{sets}
 use Rattle.answers.specs.declared.Answer.TheVariants.{Size, Room, Text}
-use Rattle.answers.specs.Answers.{done, refused_with, number_of}
+use Rattle.answers.specs.Answers.{Said, done, refused_with, number_of}
 use Rattle.answers.specs.Settings.{job_node_limit, job_edge_limit}
 use Rattle.reader.specs.declared.Head.{Head}
-use Rattle.reader.specs.declared.Job.{Job}
-use Rattle.reader.specs.declared.Job.TheVariants.{Asked, Fault}
-use Rattle.reader.specs.Edges.{Given, from_of, to_of, bits_of}
+use Rattle.lines.specs.declared.Edge.{Edge}
+use Rattle.lines.specs.declared.FaultyLine.{FaultyLine}
+use Rattle.reader.specs.Edges.{from_of, to_of, bits_of}
 use Rattle.reader.specs.Job.{job_of, edges_of}
 use Rattle.reply.specs.Reply.{refusal_text}
-use Rattle.ran.specs.Ran.{RunLeft, run_left}
 use Rattle.outcomes.specs.Texts.{output_room}
 use Rattle.scoring.specs.Scored.{scored_text, on_zeros, doubles}
 
@@ -27,13 +26,22 @@ head_answer head from to bits =
     (scored_text head.measure head.top (on_zeros from to (doubles bits))))
 
 -- TEXT with the first faulty line, or the text of the job
-abbrev pub job_answer : Job → List Given → List ℕ
-job_answer (Asked head) edges = head_answer head (map from_of edges) (map to_of edges) (map bits_of edges)
-job_answer (Fault line) edges = refusal_text (number_of Text) line
+abbrev pub job_answer : Result Head FaultyLine → List Edge → List ℕ
+job_answer (Ok head) edges = head_answer head (map from_of edges) (map to_of edges) (map bits_of edges)
+job_answer (Err line) edges = refusal_text (number_of Text) line.number
 
 -- the answer's text of any bytes: SIZE for too many of them before all else
 unfoldable pub answer_of : List ℕ → List ℕ
 answer_of input = cond (ltb input_limit (length input)) (refusal_text (number_of Size) 0) (job_answer (job_of input) (edges_of input).given)
+
+-- what `run` leaves: what it says, how many bytes it wrote or a refusal, and the output
+pub record RunLeft : Type 0 where
+  pub says : Said ℕ
+  pub output : List ℕ
+
+-- what `run` leaves, from its parts
+abbrev pub run_left : Said ℕ → List ℕ → RunLeft
+run_left says output = record { says = says; output = output }
 
 -- ROOM, with the output as it was, if the output is too short for any answer; else the answer's text at its beginning, and every byte after it as it was
 unfoldable pub run_outcome : List ℕ → List ℕ → RunLeft

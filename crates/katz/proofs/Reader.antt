@@ -14,10 +14,11 @@ use Rattle.regions.specs.Region.{zero_f, list_of}
 use Rattle.regions.proofs.Fronts.{list_long}
 use Rattle.answers.specs.declared.Settings.{Settings}
 use Rattle.answers.specs.declared.Rounds.{Rounds}
-use Rattle.answers.specs.Answers.{done, said_ended}
+use Rattle.answers.specs.Answers.{done, said_by}
 use Rattle.graph.specs.Edges.{Graph}
-use Rattle.answers.specs.declared.Ended.{Ended}
-use Rattle.answers.proofs.Said.{ended_returned}
+use Rattle.std.specs.Prelude.{Result}
+use Rattle.answers.specs.declared.Refusal.{Refusal}
+use Rattle.answers.proofs.Said.{returned}
 use Rattle.graph.specs.Given.{Given, graph_in}
 use Rattle.graph.specs.Refusals.{first_refusal}
 use Rattle.graph.specs.Left.{left}
@@ -29,11 +30,11 @@ use Rattle.rounds.proofs.Finite.{settles_finite}
 use Rattle.rounds.proofs.Reader.{AllFinite, scores_finite, edges_keep}
 use Rattle.katz.specs.Katz.{beta_at, beta_of, katz_next, katz_step, katz_rounds, katz_tests, katz_outcome}
 
-pub katz_unique : (settings : Settings) (flag : Bool) (beta : List Float) (g : Given (List Float)) {r r' : Ended} {s s' : List Float} {x x' y y' : List ℕ} {z z' : List Float}
-    → left (said_ended r) s x y z ≡ katz_outcome settings flag beta g → left (said_ended r') s' x' y' z' ≡ katz_outcome settings flag beta g → (r ≡ r') × (s ≡ s') × (x ≡ x') × (y ≡ y') × (z ≡ z')
+pub katz_unique : (settings : Settings) (flag : Bool) (beta : List Float) (g : Given (List Float)) {r r' : Result Rounds Refusal} {s s' : List Float} {x x' y y' : List ℕ} {z z' : List Float}
+    → left (said_by r) s x y z ≡ katz_outcome settings flag beta g → left (said_by r') s' x' y' z' ≡ katz_outcome settings flag beta g → (r ≡ r') × (s ≡ s') × (x ≡ x') × (y ≡ y') × (z ≡ z')
 katz_unique settings flag beta g {r} {r'} p q =
     let same = no_second p q in
-    (ended_returned r r' same.0, same.1, same.2, same.3, same.4)
+    (returned r r' same.0, same.1, same.2, same.3, same.4)
 
 module _ (g : Graph) (settings : Settings) (flag : Bool) (beta : List Float) where
   pub katz_says : Says (eqb g.nodes 0) (katz_step g settings.damping settings.tolerance (beta_of flag beta g.nodes)) settings.limit (list_of (λ _. zero_f) g.nodes) (katz_rounds g settings flag beta)

@@ -1,19 +1,21 @@
 -- The steps of `katz` put together: a round, the rounds, the call. Assumes nothing.
-use mathlib.Core.Path.{◌≡◌, refl, sym, ap, ◌∙◌, subst}
-use mathlib.Core.Bool.{Bool, true, false}
+use mathlib.Core.Path.{◌≡◌, sym, ap, ◌∙◌, subst}
+use mathlib.Core.Bool.{Bool, false}
 use mathlib.Core.List.{List, foldl}
 use Prim.Native.Nat.{ℕ, ◌≤◌}
-use borrow.Author.Tests.{eq-eqb, ne_eqb}
+use native.Mathlib.Omega.{arith}
+use lib.Dec.{eqb, ltb}
 use lib.ListN.{length}
 use lib.Ieee.{Float, lt}
 use Rattle.regions.specs.Region.{zero_f, list_of}
 use Rattle.regions.proofs.Fronts.{front_then}
 use Rattle.roots.specs.Root.{sqrt_of}
-use Rattle.answers.specs.declared.Answer.{Answer}
+use Rattle.std.specs.Prelude.{Result}
+use Rattle.answers.specs.declared.Refusal.{Refusal}
 use Rattle.answers.specs.declared.Settings.{Settings}
 use Rattle.answers.specs.declared.Rounds.{Rounds}
 use Rattle.graph.specs.declared.Fronts.{Fronts}
-use Rattle.answers.specs.Answers.{Said}
+use Rattle.answers.specs.Answers.{Said, refused_if}
 use Rattle.graph.specs.Edges.{edges_of, graph_from}
 use Rattle.graph.specs.Fronts.{usual_fronts}
 use Rattle.graph.specs.Given.{Given, graph_in}
@@ -21,15 +23,16 @@ use Rattle.graph.specs.Refusals.{first_refusal}
 use Rattle.graph.specs.Pres.{Passed, Ready}
 use Rattle.graph.specs.Left.{left}
 use Rattle.graph.proofs.Left.{went_on}
-use Rattle.rounds.specs.Rounds.{round, outcome_from, outcome}
-use Rattle.rounds.specs.Tests.{reads_wrong, length_wrong, iterative_tests}
+use Rattle.rounds.specs.Rounds.{Round, round, outcome}
+use Rattle.rounds.specs.Tests.{reads_wrong, length_wrong, own_tests}
 use Rattle.rounds.specs.Ending.{settled_only, settled_by, WritePre}
-use Rattle.rounds.proofs.Tests.{iterative_ready, iterative_fits, length_right}
+use Rattle.rounds.proofs.Tests.{checked, iterative_ready, iterative_fits, length_right}
 use Rattle.rounds.proofs.Ending.{vectors_room, write_pre, settled_ends}
 use Rattle.rounds.specs.Vectors.{squared_change, settles, current_in, next_in, Vectors}
 use Rattle.katz.specs.Katz.{beta_of, katz_edge, katz_next, katz_step, katz_rounds, katz_own, katz_tests, katz_outcome}
 use Rattle.rounds.specs.Steps.{RoundDone, RoundsDone}
-use Rattle.katz.specs.Steps.{RunPre}
+use Rattle.katz.specs.Steps.{RunPre, RoundPre}
+use Rattle.rounds.specs.declared.Own.{Own}
 
 module _ (n : ℕ) (directed : Bool) (from to : List ℕ) (weight : List Float) where
   -- the edges made w1 of w, and `advance` w2 of that
@@ -38,10 +41,10 @@ module _ (n : ℕ) (directed : Bool) (from to : List ℕ) (weight : List Float) 
       → change ≡ squared_change n (current_in n w1) (next_in n w1)
       → Vectors n w1 (next_in n w1) beta w2
       → root ≡ sqrt_of change
-      → RoundDone n (katz_step (graph_from n directed from to weight) alpha tolerance beta) beta w (lt root tolerance) w2
+      → RoundDone n (katz_step (graph_from n directed from to weight) alpha tolerance beta) w (lt root tolerance) w2 × (next_in n w2 ≡ beta)
   unfolding katz_next katz_step settles
   round_done alpha tolerance {beta} {w} {w1} {w2} {change} {root} begun s ec a er =
-      record { front = front_then s.front a.front; stepped = stepped; begun = a.next }
+      (record { front = front_then s.front a.front; stepped = stepped }, a.next)
     where
       made : katz_next (graph_from n directed from to weight) alpha beta (current_in n w) ≡ next_in n w1
       made = ap (λ (y : List Float). foldl (katz_edge directed alpha (current_in n w)) y (edges_of from to weight)) (sym begun) ∙ sym s.next
@@ -62,45 +65,44 @@ module _ (n : ℕ) (directed : Bool) (from to : List ℕ) (weight : List Float) 
     abbrev Done : Rounds → List Float → Type 0
     Done r w' = RoundsDone n settings (katz_rounds (graph_from n directed from to weight) settings flag beta) w r w'
 
-    -- no nodes
-    pub run_none : n ≡ 0 → Done (record { settings = settings; rounds = 0; settled = true }) w1
-    unfolding katz_rounds outcome
-    run_none e =
-        record {
-          front = v.front;
-          settings_kept = refl;
-          ended = rw (eq-eqb n 0 e, v.current);
-        }
-
-    -- some: r and w2 are what the rounds made of w1
-    pub run_some : {r : Rounds} {w2 : List Float} → (n ≡ 0 → ⊥)
-        → RoundsDone n settings (outcome_from (katz_step (graph_from n directed from to weight) settings.damping settings.tolerance (beta_of flag beta n)) settings.limit 0 (current_in n w1)) w1 r w2
+    -- r and w2 are what the rounds made of w1
+    pub run_done : {r : Rounds} {w2 : List Float}
+        → RoundsDone n settings (outcome (eqb n 0) (katz_step (graph_from n directed from to weight) settings.damping settings.tolerance (beta_of flag beta n)) settings.limit (current_in n w1)) w1 r w2
         → Done r w2
-    unfolding katz_rounds outcome
-    run_some {r} {w2} e d =
+    unfolding katz_rounds
+    run_done d =
         let step = katz_step (graph_from n directed from to weight) settings.damping settings.tolerance (beta_of flag beta n) in
         record {
           front = front_then v.front d.front;
           settings_kept = d.settings_kept;
-          ended = rw (ne_eqb n 0 e) (d.ended ∙ ap (outcome_from step settings.limit 0) v.current);
+          ended = d.ended ∙ ap (outcome (eqb n 0) step settings.limit) v.current;
         }
+
+module _ {n : ℕ} {from to : List ℕ} {weight : List Float} {flag : Bool} {beta w : List Float} where
+  -- the first round may begin
+  pub first_pre : {x w1 : List Float} → RunPre n from to weight flag beta w → Vectors n w x (beta_of flag beta n) w1 → RoundPre n from to weight flag beta w1
+  first_pre p v = record {
+    run = record { sound = p.sound; vectors = record { room = omega (arith, p.vectors.room, v.front.long); long = p.vectors.long } };
+    begun = v.next;
+  }
+
+  -- a round leaves what the next one asks
+  pub again_pre : {w' : List Float} {met : Bool} {step : List Float → Round (List Float)} → RoundPre n from to weight flag beta w
+      → RoundDone n step w met w' × (next_in n w' ≡ beta_of flag beta n) → RoundPre n from to weight flag beta w'
+  again_pre p r = record {
+    run = record { sound = p.run.sound; vectors = record { room = omega (arith, p.run.vectors.room, r.0.front.long); long = p.run.vectors.long } };
+    begun = r.1;
+  }
 
 -- ---- the call
 module _ (settings : Settings) (flag : Bool) (beta : List Float) (g : Given (List Float)) where
-  -- what the checks answered, b and l being two of them
-  pub answered : {a : Answer} {b l : Bool}
-      → a ≡ first_refusal (iterative_tests g false (record { number = b; damping = false; rounds = false; lengths = l; start = false }))
-      → b ≡ reads_wrong g.weight settings.damping settings.tolerance flag beta → l ≡ length_wrong flag (length beta) g.nodes
-      → a ≡ first_refusal (katz_tests settings flag beta g)
-  answered {a} {b} {l} ea eb el =
-      ea
-      ∙ ap (λ (x : Bool). first_refusal (iterative_tests g false (record { number = x; damping = false; rounds = false; lengths = l; start = false }))) eb
-      ∙ ap
-      (λ (x : Bool).
-      first_refusal
-      (iterative_tests g false
-      (record { number = reads_wrong g.weight settings.damping settings.tolerance flag beta; damping = false; rounds = false; lengths = x; start = false })))
-      el
+  -- the tests as the code found them
+  pub answered : {x : Result (Unit {0}) Refusal} {l : Fronts} {b c : Bool} → (l.narrow ≡ length g.w32) × (l.wide ≡ length g.w64) × (l.floats ≡ length g.wf)
+      → b ≡ reads_wrong g.weight settings.damping settings.tolerance flag beta → c ≡ length_wrong flag (length beta) g.nodes
+      → let own : Own = record { number = b; damping = false; rounds = false; lengths = c; start = false } in
+      x ≡ refused_if (first_refusal (own_tests g.nodes g.from g.to g.weight false own (ltb (length g.results) g.nodes) l.narrow l.wide l.floats))
+      → x ≡ refused_if (first_refusal (katz_tests settings flag beta g))
+  answered z eb ec e = rw (eb, ec) at (checked g false _ z e)
 
   module _ (p : Passed (katz_tests settings flag beta g)) where
     pub ready : Ready g

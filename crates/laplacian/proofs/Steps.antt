@@ -1,24 +1,43 @@
 -- What the first and the last steps of a call over rows need and leave: nothing refused, the rows built, the workspace wiped.
 -- `reaching` and `voterank` begin and end so too. Assumes nothing.
 use Rattle.std.proofs.Common.{◌≡◌, ℕ, ◌<◌, ◌≤◌, Bool, true, false, cond, ltb, List, length, get_or, sym, refl, ap, ◌∙◌, arith, ltb-false}
+use Rattle.std.specs.Prelude.{Result, Ok, Err}
 use lib.Ieee.{Float, nan}
 use Rattle.regions.specs.Region.{Front, over, list_of}
 use Rattle.regions.proofs.Fronts.{list_long, cleared_after_d}
 use Rattle.regions.proofs.Parts.{list_at_lem, over_at}
 use Rattle.graph.specs.declared.Fronts.{Fronts}
-use Rattle.answers.specs.Answers.{Said, done, refusal, refuses, refused_with}
+use Rattle.answers.specs.declared.Refusal.{Refusal}
+use Rattle.answers.specs.Answers.{Said, done, refusal, refuses, refused_with, said_by, refused_if}
 use Rattle.graph.specs.Fronts.{usual_fronts}
 use Rattle.graph.specs.Given.{Given}
 use Rattle.graph.specs.Left.{Left, left, untouched, wiped, Wiped, unless_refused}
 use Rattle.graph.specs.Pres.{Passed, Ready, Roomy}
-use Rattle.graph.specs.Refusals.{Tests, first_refusal}
-use Rattle.graph.proofs.Left.{went_on}
+use Rattle.graph.specs.Refusals.{Tests, first_refusal, plain_refusal}
+use Rattle.graph.proofs.Left.{refused, went_on}
 use Rattle.graph.proofs.Refusals.{passed, plain_tests, plain_ready, plain_fits}
 use Rattle.rows.specs.Rows.{BuildPre}
+
+-- these are the lengths of the workspace that a call was given
+abbrev pub Lengths : {R : Type 0} → Given R → Fronts → Type 0
+Lengths g l = (l.narrow ≡ length g.w32) × (l.wide ≡ length g.w64) × (l.floats ≡ length g.wf)
 
 -- the rows of the table that can hold of a call with n scores
 abbrev pub score_tests : Given (List Float) → Tests
 score_tests g = plain_tests g false false (ltb (length g.results) g.nodes)
+
+-- what the check of such a call returns
+abbrev pub checked : Given (List Float) → Fronts → Result (Unit {0}) Refusal
+checked g l = refused_if (plain_refusal g.nodes g.from g.to g.weight false false (ltb (length g.results) g.nodes) l.narrow l.wide l.floats)
+
+-- it let the call pass
+pub score_passed : (g : Given (List Float)) {l : Fronts} {v : Unit {0}} → Lengths g l → Ok v ≡ checked g l → Passed (score_tests g)
+score_passed g h e = passed (score_tests g) (rw (h.0, h.1, h.2) at e)
+
+-- it found the refusal r, and the call returned it as x
+pub score_refused : (g : Given (List Float)) (did : Left (Said (Unit {0})) (List Float)) {l : Fronts} {x : Result (Unit {0}) Refusal} {r : Refusal}
+    → Lengths g l → x ≡ Err r → Err r ≡ checked g l → untouched g (said_by x) ≡ unless_refused g (first_refusal (score_tests g)) did
+score_refused g did h ex e = refused g (score_tests g) did ex (rw (h.0, h.1, h.2) at e)
 
 module _ (g : Given (List Float)) (p : Passed (score_tests g)) where
   pub ready : Ready g
@@ -71,7 +90,7 @@ module _ (g : Given (List Float)) (score : ℕ → Float) where
     where
       by : (b : Bool) → refuses (first_refusal (score_tests g)) ≡ b → (cond b (untouched g (refused_with (first_refusal (score_tests g)))) works).says ≡ done tt → Passed (score_tests g)
       by true q e = absurd (no_values e)
-      by false q e = passed (score_tests g) refl refl q
+      by false q e = passed (score_tests g) {v = tt} (rw q)
 
   -- each node's score stands in its place
   pub done_at : Passed (score_tests g) → (v : ℕ) → v < g.nodes → get_or leaves.results v nan ≡ score v

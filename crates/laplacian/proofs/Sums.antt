@@ -1,8 +1,7 @@
 -- Laws of the Laplacian score: a neighbour at a time, and the same from rows that agree. Assumes nothing.
-use Rattle.std.proofs.Common.{◌≡◌, ℕ, suc, ◌+◌, ◌<◌, List, [], ◌∷◌, length, get_or, take, sym, refl, ap, ◌∙◌, add-one, arith, take_all, take-suc}
-use mathlib.Core.List.{foldl, foldl-append}
-use lib.Ieee.{Float, binary64, add, mul}
-use Rattle.regions.specs.Doubles.{two}
+use Rattle.std.proofs.Common.{◌≡◌, ℕ, suc, ◌<◌, List, [], ◌∷◌, length, get_or, take, refl, ap, ◌∙◌, arith, take_all}
+use mathlib.Core.List.{foldl}
+use lib.Ieee.{Float}
 use Rattle.laplacian.specs.Laplacian.{entry_count, own_part, with_neighbour, laplacian_score}
 
 -- ---- a neighbour at a time
@@ -10,21 +9,6 @@ module _ (rows : ℕ → List ℕ) (v : ℕ) where
   -- the sum after k entries of v
   abbrev pub sum_after : ℕ → Float
   sum_after k = foldl (with_neighbour rows) (own_part (entry_count rows v)) (take k (rows v))
-
-  sum_more : (k : ℕ) → k < length (rows v) → with_neighbour rows (sum_after k) (get_or (rows v) k 0) ≡ sum_after (k + 1)
-  sum_more k l =
-      sym
-      (ap sum_after (add-one k)
-      ∙ ap (foldl (with_neighbour rows) (own_part (entry_count rows v))) (take-suc (rows v) k 0 l)
-      ∙ foldl-append (with_neighbour rows) (own_part (entry_count rows v)) (take k (rows v)) (get_or (rows v) k 0 ∷ []))
-
-  -- one turn of the code: u is the kth entry, and d its degree
-  pub sum_turn : (k : ℕ) (sum d : Float) (u : ℕ) → k < length (rows v) → u ≡ get_or (rows v) k 0 → d ≡ entry_count rows u → sum ≡ sum_after k → add binary64 sum (mul binary64 two d) ≡ sum_after (k + 1)
-  sum_turn k sum d u l eu ed es =
-      ap (λ (x : Float). add binary64 sum (mul binary64 two x)) ed
-      ∙ ap (with_neighbour rows sum) eu
-      ∙ ap (λ (x : Float). with_neighbour rows x (get_or (rows v) k 0)) es
-      ∙ sum_more k l
 
   pub sum_all : (k : ℕ) → k ≡ length (rows v) → sum_after k ≡ laplacian_score rows v
   unfolding laplacian_score

@@ -3,80 +3,71 @@
 
 ghost use Rattle.std.specs.Prelude.{◌≡◌, ◌<◌, ◌≤◌, length};
 ghost use Rattle.regions.specs.Region.{over, list_of};
-ghost use Rattle.answers.specs.Answers.{said_plain};
-ghost use Rattle.graph.specs.Given.{given};
+ghost use Rattle.answers.specs.Answers.{said_by};
+ghost use Rattle.graph.specs.Given.{lent};
 ghost use Rattle.graph.specs.Left.{left};
-ghost use Rattle.rows.specs.Rows.{row_at, RowsFit};
+ghost use Rattle.rows.specs.Rows.{row_at};
 ghost use Rattle.laplacian.specs.Laplacian.{entry_count, laplacian_score, laplacian_outcome};
 
-use answers::{Plain, Refusal};
+use answers::Refusal;
+use graph::Graph;
+use rows::Rows;
 
 // d*d + d + twice the neighbours' d, for each node; d is the number of its neighbour entries.
 // Refuses SIZE, NODE, ROOM, in this order.
 pub fn laplacian(
-    nodes: usize,
-    directed: bool,
-    from: &[u32],
-    to: &[u32],
-    weight: &[f64],
+    graph: Graph<'_>,
     scores: &mut [f64],
     w32: &mut [u32],
     w64: &mut [u64],
     wf: &mut [f64],
-) -> Plain
-    ensures { left (said_plain result) scores.new w32.new w64.new wf.new ≡ laplacian_outcome (given nodes directed from.now to.now weight.now scores.old w32.old w64.old wf.old) }
+) -> Result<(), Refusal>
+    ensures { left (said_by result) scores.new w32.new w64.new wf.new ≡ laplacian_outcome (lent graph.entry scores.old w32.old w64.old wf.old) }
 {
-    let answer = graph::plain_refusal(
-        nodes,
-        from,
-        to,
-        weight,
-        false,
-        false,
-        scores.len() < nodes,
-        w32.len(),
-        w64.len(),
-        wf.len(),
+    let short = scores.len() < graph.nodes;
+    graph::plain_refusal(graph, false, false, short, graph::lengths(w32, w64, wf))?;
+    rows::build_rows(graph, w32);
+    let rows = Rows {
+        nodes: graph.nodes,
+        cells: w32,
+    };
+    score_nodes(rows, scores);
+    graph::wipe(
+        graph::usual_fronts(graph.nodes, graph.from.len()),
+        w32,
+        w64,
+        wf,
     );
-    if answers::refuses(answer) {
-        return Plain::Refused(Refusal { answer });
-    }
-    rows::build_rows(nodes, directed, from, to, weight, w32);
-    score_nodes(nodes, w32, scores);
-    graph::wipe(graph::usual_fronts(nodes, from.len()), w32, w64, wf);
-    Plain::Done
+    Ok(())
 }
 
-// The score of each node, from the rows in w.
-fn score_nodes(nodes: usize, w: &[u32], scores: &mut [f64])
-    requires { RowsFit nodes w.now × (nodes ≤ length scores.old) }
-    ensures { scores.new ≡ over (list_of (laplacian_score (row_at nodes w.now)) nodes) scores.old }
+// The score of each node.
+fn score_nodes(rows: Rows<'_>, scores: &mut [f64])
+    requires { rows.nodes ≤ length scores.old }
+    ensures { scores.new ≡ over (list_of (laplacian_score (row_at rows.entry.nodes rows.entry.cells.now)) rows.entry.nodes) scores.old }
 {
-    let mut v = 0;
-    while v < nodes {
-        scores[v] = score(nodes, w, v);
-        v += 1;
+    for v in 0..rows.nodes {
+        scores[v] = score(rows, v);
     }
 }
 
-fn score(nodes: usize, w: &[u32], v: usize) -> f64
-    requires { RowsFit nodes w.now × (v < nodes) }
-    ensures { result ≡ laplacian_score (row_at nodes w.now) v }
+// The score of v: its own part, and its neighbours added in the order of their entries.
+fn score(rows: Rows<'_>, v: usize) -> f64
+    requires { v < rows.nodes }
+    ensures { result ≡ laplacian_score (row_at rows.entry.nodes rows.entry.cells.now) v }
 {
-    let d = degree(nodes, w, v);
-    let entries = rows::row_length(nodes, w, v);
+    let d = degree(rows, v);
     let mut sum = d * d + d;
-    let mut k = 0;
-    while k < entries {
-        sum = sum + 2.0 * degree(nodes, w, rows::entry(nodes, w, v, k));
-        k += 1;
+    for u in rows.row(v) {
+        sum += 2.0 * degree(rows, *u as usize);
     }
     sum
 }
 
-fn degree(nodes: usize, w: &[u32], v: usize) -> f64
-    requires { RowsFit nodes w.now × (v < nodes) }
-    ensures { result ≡ entry_count (row_at nodes w.now) v }
+// How many neighbour entries v has.
+fn degree(rows: Rows<'_>, v: usize) -> f64
+    requires { v < rows.nodes }
+    ensures { result ≡ entry_count (row_at rows.entry.nodes rows.entry.cells.now) v }
 {
-    std::num::nearest_u64_to_f64(rows::row_length(nodes, w, v) as u64)
+    std::num::nearest_u64_to_f64(rows.row(v).len() as u64)
 }

@@ -1,12 +1,12 @@
 // What a replayed call is lent and what it leaves: slices of exactly the lengths that its record gives, and what it says.
 #![tactic(auto)]
 
-ghost use Rattle.std.specs.Prelude.{◌≡◌, take};
-ghost use Rattle.words.specs.Words.{word_at};
-ghost use Rattle.answers.specs.Answers.{number_said, said_plain};
-ghost use Rattle.lent.specs.Said.{Tells};
+ghost use Rattle.std.specs.Prelude.{◌≡◌};
+ghost use Rattle.answers.specs.Answers.{number_said, said_by};
+ghost use Rattle.lent.specs.Slots.{old_slots, lent_front};
 
-use answers::{Elected, Ended, Plain};
+use answers::{Refusal, Rounds};
+use words::Record;
 
 // The longest slices that a record lends: results, and the three of the workspace.
 pub const RESULTS: usize = 160;
@@ -33,13 +33,9 @@ pub struct Said {
     pub elected: u64,
 }
 
-// What a call says, its four result slices and the workspace, with all that stands behind what was lent.
+// The four result slices and the workspace, with all that stands behind what is lent.
 #[derive(Clone, Copy)]
-pub struct Left {
-    pub answer: u64,
-    pub settled: u64,
-    pub rounds: u64,
-    pub elected: u64,
+pub struct Slots {
     pub narrow: [u32; RESULTS],
     pub wide: [u64; RESULTS],
     pub floats: [f64; RESULTS],
@@ -49,151 +45,130 @@ pub struct Left {
     pub wf: [f64; FLOATS],
 }
 
+// What a call says, and all the slots after it.
+#[derive(Clone, Copy)]
+pub struct Left {
+    pub said: Said,
+    pub slots: Slots,
+}
+
+// What a call is lent of the slots.
+#[derive(Drop)]
+pub struct Lent<'a> {
+    pub narrow: &'a mut [u32],
+    pub wide: &'a mut [u64],
+    pub floats: &'a mut [f64],
+    pub back: &'a mut [f64],
+    pub w32: &'a mut [u32],
+    pub w64: &'a mut [u64],
+    pub wf: &'a mut [f64],
+}
+
+impl Slots {
+    // As they stand before a call.
+    pub fn old() -> Slots
+        ensures { result ≡ old_slots }
+    {
+        Slots {
+            narrow: [OLD32; RESULTS],
+            wide: [OLD64; RESULTS],
+            floats: [OLDF; RESULTS],
+            back: [OLDF; RESULTS],
+            w32: [OLD32; NARROW],
+            w64: [OLD64; WIDE],
+            wf: [OLDF; FLOATS],
+        }
+    }
+
+    // The front of each, as long as the record says.
+    pub fn lend<'a>(&'a mut self, asked: Record<'_>) -> Lent<'a>
+        ensures narrow { result.narrow.now ≡ lent_front asked.entry 0 self.old.narrow }
+        ensures wide { result.wide.now ≡ lent_front asked.entry 1 self.old.wide }
+        ensures floats { result.floats.now ≡ lent_front asked.entry 2 self.old.floats }
+        ensures back { result.back.now ≡ lent_front asked.entry 3 self.old.back }
+        ensures w32 { result.w32.now ≡ lent_front asked.entry 4 self.old.w32 }
+        ensures w64 { result.w64.now ≡ lent_front asked.entry 5 self.old.w64 }
+        ensures wf { result.wf.now ≡ lent_front asked.entry 6 self.old.wf }
+    {
+        let Slots {
+            narrow,
+            wide,
+            floats,
+            back,
+            w32,
+            w64,
+            wf,
+        } = self;
+        Lent {
+            narrow: lend(asked, 0, narrow),
+            wide: lend(asked, 1, wide),
+            floats: lend(asked, 2, floats),
+            back: lend(asked, 3, back),
+            w32: lend(asked, 4, w32),
+            w64: lend(asked, 5, w64),
+            wf: lend(asked, 6, wf),
+        }
+    }
+}
+
 // The front of slots that is as long as the record's word says; all where there are not so many.
-pub fn lend32<'a>(
-    words: &[u64],
-    lengths: usize,
-    which: usize,
-    slots: &'a mut [u32],
-) -> &'a mut [u32]
-    ensures { result.now ≡ take (word_at words.now lengths which) slots.old }
+pub fn lend<'a, T>(asked: Record<'_>, which: usize, slots: &'a mut [T]) -> &'a mut [T]
+    ensures { result.now ≡ lent_front asked.entry which slots.old }
 {
-    let n = words::size(words, lengths, which);
-    if slots.len() < n {
-        return slots;
-    }
-    &mut slots[..n]
-}
-
-pub fn lend64<'a>(
-    words: &[u64],
-    lengths: usize,
-    which: usize,
-    slots: &'a mut [u64],
-) -> &'a mut [u64]
-    ensures { result.now ≡ take (word_at words.now lengths which) slots.old }
-{
-    let n = words::size(words, lengths, which);
-    if slots.len() < n {
-        return slots;
-    }
-    &mut slots[..n]
-}
-
-pub fn lendf<'a>(words: &[u64], lengths: usize, which: usize, slots: &'a mut [f64]) -> &'a mut [f64]
-    ensures { result.now ≡ take (word_at words.now lengths which) slots.old }
-{
-    let n = words::size(words, lengths, which);
-    if slots.len() < n {
-        return slots;
-    }
+    let n = words::size(asked.words, asked.parts.lengths, which).min(slots.len());
     &mut slots[..n]
 }
 
 // What a call with no values of its own says.
-pub fn plain(p: Plain) -> Said
-    ensures { (result.answer ≡ number_said (said_plain p)) × (result.settled ≡ 0) × (result.rounds ≡ 0) × (result.elected ≡ 0) }
-{
-    Said {
-        answer: answers::plain_number(p) as u64,
-        settled: 0,
-        rounds: 0,
-        elected: 0,
+impl From<Result<(), Refusal>> for Said {
+    ghost from_gives = { λ said s. (s.answer ≡ number_said (said_by said)) × (s.settled ≡ 0) × (s.rounds ≡ 0) × (s.elected ≡ 0) };
+
+    fn from(said: Result<(), Refusal>) -> Said {
+        Said {
+            answer: u64::from(answers::number_said(said)),
+            settled: 0,
+            rounds: 0,
+            elected: 0,
+        }
     }
 }
 
 // What an iterative call says: whether it settled, and its rounds.
-pub fn ended(e: Ended) -> Said
-    ensures { result.elected ≡ 0 }
-{
-    match e {
-        Ended::Done(r) => Said {
-            answer: 0,
-            settled: r.settled as u64,
-            rounds: r.rounds,
-            elected: 0,
-        },
-        Ended::Refused(r) => plain(Plain::Refused(r)),
+impl From<Result<Rounds, Refusal>> for Said {
+    ghost from_gives = { λ _ s. s.elected ≡ 0 };
+
+    fn from(said: Result<Rounds, Refusal>) -> Said {
+        match said {
+            Ok(r) => Said {
+                answer: 0,
+                settled: u64::from(r.settled),
+                rounds: r.rounds,
+                elected: 0,
+            },
+            Err(refusal) => {
+                let refused: Result<(), Refusal> = Err(refusal);
+                Said::from(refused)
+            }
+        }
     }
 }
 
 // What an election says: how many were elected.
-pub fn elected(e: Elected) -> Said
-    ensures { (result.settled ≡ 0) × (result.rounds ≡ 0) }
-{
-    match e {
-        Elected::Done(n) => Said {
-            answer: 0,
-            settled: 0,
-            rounds: 0,
-            elected: n as u64,
-        },
-        Elected::Refused(r) => plain(Plain::Refused(r)),
-    }
-}
+impl From<Result<usize, Refusal>> for Said {
+    ghost from_gives = { λ _ s. (s.settled ≡ 0) × (s.rounds ≡ 0) };
 
-// What is left by a call that is lent a slice of scores and a workspace.
-pub fn scored(
-    said: Said,
-    floats: [f64; RESULTS],
-    w32: [u32; NARROW],
-    w64: [u64; WIDE],
-    wf: [f64; FLOATS],
-) -> Left
-    ensures { Tells said result × (result.floats ≡ floats) × (result.w32 ≡ w32) × (result.w64 ≡ w64) × (result.wf ≡ wf) }
-{
-    let back = [OLDF; RESULTS];
-    passed(said, floats, back, w32, w64, wf)
-}
-
-// By one that is lent scores one way and the other.
-pub fn passed(
-    said: Said,
-    floats: [f64; RESULTS],
-    back: [f64; RESULTS],
-    w32: [u32; NARROW],
-    w64: [u64; WIDE],
-    wf: [f64; FLOATS],
-) -> Left
-    ensures { Tells said result × (result.floats ≡ floats) × (result.back ≡ back) × (result.w32 ≡ w32) × (result.w64 ≡ w64) × (result.wf ≡ wf) }
-{
-    Left {
-        answer: said.answer,
-        settled: said.settled,
-        rounds: said.rounds,
-        elected: said.elected,
-        narrow: [OLD32; RESULTS],
-        wide: [OLD64; RESULTS],
-        floats,
-        back,
-        w32,
-        w64,
-        wf,
-    }
-}
-
-// By one that is lent slots for nodes or distances, and for counts.
-pub fn counted(
-    said: Said,
-    narrow: [u32; RESULTS],
-    wide: [u64; RESULTS],
-    w32: [u32; NARROW],
-    w64: [u64; WIDE],
-    wf: [f64; FLOATS],
-) -> Left
-    ensures { Tells said result × (result.narrow ≡ narrow) × (result.wide ≡ wide) × (result.w32 ≡ w32) × (result.w64 ≡ w64) × (result.wf ≡ wf) }
-{
-    Left {
-        answer: said.answer,
-        settled: said.settled,
-        rounds: said.rounds,
-        elected: said.elected,
-        narrow,
-        wide,
-        floats: [OLDF; RESULTS],
-        back: [OLDF; RESULTS],
-        w32,
-        w64,
-        wf,
+    fn from(said: Result<usize, Refusal>) -> Said {
+        match said {
+            Ok(n) => Said {
+                answer: 0,
+                settled: 0,
+                rounds: 0,
+                elected: n as u64,
+            },
+            Err(refusal) => {
+                let refused: Result<(), Refusal> = Err(refusal);
+                Said::from(refused)
+            }
+        }
     }
 }

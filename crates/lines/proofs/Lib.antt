@@ -1,4 +1,3 @@
-pub mod Spans
-pub mod Edges
 pub mod Measures
+pub mod Values
 pub mod Tops

@@ -32,11 +32,6 @@ module _ (n m : ℕ) (w : List ℕ) (fit : ListsFit n m w) where
       let e : get_or w (v + (n - v)) 0 ≡ get_or w n 0 = ap (λ (i : ℕ). get_or w i 0) (omega arith) in
       omega (arith, rising v (n - v) (omega arith), e)
 
-  pub total : (n ≡ 0 → ⊥) → get_or w n 0 ≤ 2 * m
-  total h =
-      let e : get_or w (n - 1 + 1) 0 ≡ get_or w n 0 = ap (λ (i : ℕ). get_or w i 0) (omega arith) in
-      omega (arith, fit.inside (n - 1) (omega arith), e)
-
   -- an entry of one of the first v lists has a place and the position of an edge
   pub record Reads (j : ℕ) : Type 0 where
     pub place : j < 2 * m
@@ -59,9 +54,6 @@ pub record Copying (n m : ℕ) (weight : List Float) (w : List ℕ) (wf₀ : Lis
 module _ (n m : ℕ) (weight : List Float) (w : List ℕ) (wf₀ : List Float) where
   pub copying_none : Copying n m weight w wf₀ (get_or w 0 0) wf₀
   copying_none = record { frame = frame_none wf₀ (weights_at n) (2 * m); at = λ j a b. absurd (omega arith) }
-
-  pub copied_none : n ≡ 0 → WeightsCopied n m weight w wf₀ wf₀
-  copied_none e = record { frame = frame_none wf₀ (weights_at n) (2 * m); at = λ v j h a b. absurd (omega arith) }
 
   pub copying_more : (k : ℕ) (wf : List Float) → weights_at n + 2 * m ≤ length wf₀ → k < 2 * m → Copying n m weight w wf₀ k wf
       → Copying n m weight w wf₀ (k + 1) (set wf (weights_at n + k) (weight_in n m weight w k))

@@ -80,9 +80,3 @@ pub record Advanced (n : ℕ) (wf : List Float) (change : Float) (wf' : List Flo
   pub front : Front wf (n + n) wf'
   pub current : current_in n wf' ≡ next_in n wf
   pub changed : change ≡ absolute_change n (current_in n wf) (next_in n wf)
-
--- a round was done: the current vector is `next` of the one before, and `change` is how far they are apart
-pub record RoundDone (n : ℕ) (next : List Float → List Float) (wf : List Float) (change : Float) (wf' : List Float) : Type 0 where
-  pub front : Front wf (n + n) wf'
-  pub current : current_in n wf' ≡ next (current_in n wf)
-  pub changed : change ≡ absolute_change n (current_in n wf) (current_in n wf')

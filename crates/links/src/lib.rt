@@ -6,50 +6,39 @@ ghost use Rattle.std.specs.Prelude.{◌≡◌, ◌+◌, ◌<◌, ◌≤◌, true
 ghost use mathlib.Core.List.{foldl};
 ghost use Rattle.regions.specs.Doubles.{one};
 ghost use Rattle.regions.specs.Region.{list_of};
-ghost use Rattle.answers.specs.Answers.{said_ended};
+ghost use Rattle.answers.specs.Answers.{said_by};
 ghost use Rattle.graph.specs.Fronts.{usual_fronts};
 ghost use Rattle.graph.specs.Pres.{Limits};
 ghost use Rattle.graph.specs.Left.{left};
 ghost use Rattle.rounds.specs.Ending.{WritePre};
 ghost use Rattle.rounds.specs.Vectors.{entry, current_in, next_in, Vectors};
+ghost use Rattle.graph.specs.Given.{of_graph, of_edges};
 ghost use Rattle.links.specs.Links.{shares_in, gives, sum_of, divisor_of, divided_at};
 ghost use Rattle.links.specs.Steps.{LinksPre, PreparePre, Prepared, CopyPre, WeightsCopied, written_by, DividePre, Divided, GivePre, Given};
 
-use answers::{Ended, Rounds};
+use answers::{Refusal, Rounds};
+use graph::Graph;
 
 // Builds the weighted lists, the out-weights from them, and beside them the weights of the entries.
-pub fn prepare(
-    nodes: usize,
-    directed: bool,
-    from: &[u32],
-    to: &[u32],
-    weight: &[f64],
-    w32: &mut [u32],
-    wf: &mut [f64],
-)
-    requires { PreparePre nodes from.now to.now weight.now w32.old wf.old }
-    ensures { Prepared nodes directed from.now to.now weight.now w32.old w32.new wf.old wf.new }
+pub fn prepare(graph: Graph<'_>, w32: &mut [u32], wf: &mut [f64])
+    requires { of_edges PreparePre graph w32.old wf.old }
+    ensures { of_graph Prepared graph.entry w32.old w32.new wf.old wf.new }
 {
-    lists::build_lists(nodes, directed, from, to, weight, w32);
-    lists::out_weights(nodes, from.len(), weight, w32, wf);
-    copy_weights(nodes, from.len(), weight, w32, wf);
+    lists::build_lists(graph, w32);
+    lists::out_weights(graph, w32, wf);
+    copy_weights(graph, w32, wf);
 }
 
 // The weights of the entries in the entries' order: a round reads them one after the other, not by edge.
-fn copy_weights(nodes: usize, edges: usize, weight: &[f64], w: &[u32], wf: &mut [f64])
-    requires { CopyPre nodes edges weight.now w.now wf.old }
-    ensures { WeightsCopied nodes edges weight.now w.now wf.old wf.new }
+fn copy_weights(graph: Graph<'_>, w: &[u32], wf: &mut [f64])
+    requires { CopyPre graph.nodes (length graph.from.now) graph.weight.now w.now wf.old }
+    ensures { WeightsCopied graph.entry.nodes (length graph.entry.from.now) graph.entry.weight.now w.now wf.old wf.new }
 {
-    if nodes == 0 {
-        return;
-    }
-    let beside = nodes + 1 + 2 * edges;
+    let nodes = graph.nodes;
+    let beside = nodes + 1 + 2 * graph.from.len();
     let weights = 4 * nodes;
-    let end = w[nodes] as usize;
-    let mut k = w[0] as usize;
-    while k < end {
-        wf[weights + k] = weight[w[beside + k] as usize];
-        k += 1;
+    for k in w[0] as usize..w[nodes] as usize {
+        wf[weights + k] = graph.weight[w[beside + k] as usize];
     }
 }
 
@@ -58,21 +47,17 @@ pub fn divisor(counts: bool, vector: &[f64], nodes: usize) -> f64
     ensures { result ≡ divisor_of counts vector.now nodes }
 {
     if counts {
-        return total(vector);
+        total(vector)
+    } else {
+        std::num::nearest_u64_to_f64(nodes as u64)
     }
-    std::num::nearest_u64_to_f64(nodes as u64)
 }
 
+// The sum of the entries, in their order.
 fn total(vector: &[f64]) -> f64
     ensures { result ≡ sum_of vector.now }
 {
-    let mut sum = 0.0;
-    let mut i = 0;
-    while i < vector.len() {
-        sum = sum + vector[i];
-        i += 1;
-    }
-    sum
+    vector.iter().fold(0.0, |sum, entry| sum + *entry)
 }
 
 // Each entry of a vector that counts, else 1, over the divisor.
@@ -80,21 +65,17 @@ pub fn divide(nodes: usize, counts: bool, vector: &[f64], divisor: f64, base: us
     requires { DividePre nodes counts vector.now base wf.old }
     ensures { Divided nodes (list_of (divided_at counts vector.now divisor) nodes) base wf.old wf.new }
 {
-    let mut i = 0;
-    while i < nodes {
+    for i in 0..nodes {
         wf[base + i] = numerator(counts, vector, i) / divisor;
-        i += 1;
     }
 }
 
+// The entry of a vector that counts, else 1.
 fn numerator(counts: bool, vector: &[f64], i: usize) -> f64
     requires { counts ≡ true → i < length vector.now }
     ensures { result ≡ (if counts then entry vector.now i else one) }
 {
-    if counts {
-        return vector[i];
-    }
-    1.0
+    if counts { vector[i] } else { 1.0 }
 }
 
 // The targets of v's list gain contribution*weight, in the list's order.
@@ -143,10 +124,10 @@ fn give_four(nodes: usize, contribution: f64, w: &[u32], k: usize, wf: &mut [f64
     let to_second = contribution * wf[weights + 1];
     let to_third = contribution * wf[weights + 2];
     let to_fourth = contribution * wf[weights + 3];
-    wf[first] = wf[first] + to_first;
-    wf[second] = wf[second] + to_second;
-    wf[third] = wf[third] + to_third;
-    wf[fourth] = wf[fourth] + to_fourth;
+    wf[first] += to_first;
+    wf[second] += to_second;
+    wf[third] += to_third;
+    wf[fourth] += to_fourth;
 }
 
 // The entries from first on, one a turn.
@@ -156,11 +137,9 @@ fn give_rest(nodes: usize, contribution: f64, w: &[u32], first: usize, end: usiz
 {
     let entries = nodes + 1;
     let weights = 4 * nodes;
-    let mut k = first;
-    while k < end {
+    for k in first..end {
         let at = nodes + w[entries + k] as usize;
-        wf[at] = wf[at] + contribution * wf[weights + k];
-        k += 1;
+        wf[at] += contribution * wf[weights + k];
     }
 }
 
@@ -173,12 +152,12 @@ pub fn write(
     w32: &mut [u32],
     w64: &mut [u64],
     wf: &mut [f64],
-) -> Ended
+) -> Result<Rounds, Refusal>
     requires { Limits nodes edges × WritePre nodes (usual_fronts nodes edges) scores.old w32.old w64.old wf.old }
-    ensures { left (said_ended result) scores.new w32.new w64.new wf.new ≡ written_by (usual_fronts nodes edges) ended (current_in nodes wf.old) scores.old w32.old w64.old wf.old }
+    ensures { left (said_by result) scores.new w32.new w64.new wf.new ≡ written_by (usual_fronts nodes edges) ended (current_in nodes wf.old) scores.old w32.old w64.old wf.old }
 {
     let front = graph::usual_fronts(nodes, edges);
-    regions::copy_outf(wf, 0, nodes, scores);
+    regions::copy_out(wf, 0, nodes, scores);
     graph::wipe(front, w32, w64, wf);
-    Ended::Done(ended)
+    Ok(ended)
 }

@@ -6,7 +6,7 @@ use mathlib.Core.List.{List, [], ◌∷◌}
 use Prim.Native.Nat.{ℕ, zero, suc, ◌+◌, ◌*◌, ◌-◌, ◌≤◌, ◌<◌}
 use native.Mathlib.Numerals.{add-one}
 use native.Mathlib.Omega.{arith}
-use borrow.Author.Tests.{ne_eqb}
+use borrow.Author.Tests.{eq-eqb, ne_eqb}
 use lib.Dec.{eqb}
 use lib.ListN.{length, get_or, set, drop, length-set}
 use lib.Ieee.{Float, nan}
@@ -19,7 +19,7 @@ use Rattle.graph.specs.Layout.{entries_at, beside_at}
 use Rattle.graph.proofs.Edges.{edges_long, edges_from_lem}
 use Rattle.rows.proofs.Sums.{sum_more, sum_mono}
 use Rattle.lists.specs.Lists.{lists_front}
-use Rattle.lists.specs.Walks.{start_of, with_entry, PutPre, edge_placed, EdgePlacePre, PlacePre, no_entry, Placed}
+use Rattle.lists.specs.Walks.{start_of, with_entry, PutPre, PlacePre, no_entry, Placed}
 use Rattle.lists.proofs.Entries.{added, added_own, added_other, added_more, weighted_none, weighted_one, weighted_two, drop_short}
 
 -- a column of w at b holds what f reads of the entries: the kth of v stands where as many places are left to the end of v's list
@@ -140,34 +140,15 @@ module _ (n m : ℕ) (ends long : ℕ → ℕ) (lists : ℕ → List Entry) (w�
   pub step_put : Holds n m ends (added own x lists) w₀ (with_entry n m own x.target x.edge.at w)
   step_put = step_at (get_or w own 0 - 1) (omega (arith, has))
 
--- ---- the second entry of an edge: what the first one leaves it
-module _ (n m : ℕ) (directed : Bool) (f t at : ℕ) (w w1 : List ℕ) (pre : EdgePlacePre n m directed f t at w) (first : w1 ≡ with_entry n m f t at w) (d : directed ≡ false) (apart : f ≡ t → ⊥) where
-  both : (directed || eqb f t) ≡ false
-  both = rw (d, ne_eqb f t apart)
+-- ---- whether an edge gives one entry or two
+pub once_directed : {directed : Bool} (f t : ℕ) → directed ≡ true → (directed || eqb f t) ≡ true
+once_directed f t d = rw d
 
-  entry_long : length w1 ≡ length w
-  entry_long = ap length first ∙ simp length-set
+pub once_loop : {directed : Bool} (f t : ℕ) → directed ≡ false → f ≡ t → (directed || eqb f t) ≡ true
+once_loop f t d e = rw (d, eq-eqb f t e)
 
-  entry_other : get_or w1 t 0 ≡ get_or w t 0
-  entry_other =
-      ap (λ (l : List ℕ). get_or l t 0) first
-      ∙ miss (set (set w f (get_or w f 0 - 1)) (entries_at n + (get_or w f 0 - 1)) t) (beside_at n m + (get_or w f 0 - 1)) at t (λ q. omega (arith, pre.to))
-      ∙ miss (set w f (get_or w f 0 - 1)) (entries_at n + (get_or w f 0 - 1)) t t (λ q. omega (arith, pre.to))
-      ∙ miss w f (get_or w f 0 - 1) t (λ q. apart (sym q))
-
-  pub second_pre : PutPre n m t at w1
-  second_pre =
-      record {
-        room = omega (arith, pre.room, entry_long);
-        node = pre.to;
-        position = pre.position;
-        some = omega (arith, pre.other both, entry_other);
-        inside = omega (arith, pre.inside t pre.to, entry_other);
-      }
-
-  pub second_placed : {w2 : List ℕ} → w2 ≡ with_entry n m t f at w1 → w2 ≡ edge_placed n m directed f t at w
-  unfolding edge_placed
-  second_placed e = e ∙ rw (both, first)
+pub twice : {directed : Bool} (f t : ℕ) → directed ≡ false → (f ≡ t → ⊥) → (directed || eqb f t) ≡ false
+twice f t d e = rw (d, ne_eqb f t e)
 
 -- ---- one edge, and all edges
 module _ (n : ℕ) (directed : Bool) (fs ts : List ℕ) (xs : List Float) (w₀ : List ℕ) (pre : PlacePre n directed fs ts xs w₀) where
@@ -268,33 +249,39 @@ module _ (n : ℕ) (directed : Bool) (fs ts : List ℕ) (xs : List Float) (w₀ 
     left_to : once ≡ false → length (added (get_or fs i 0) x lists (get_or ts i 0)) < long (get_or ts i 0)
     left_to q = omega (arith, short i (get_or ts i 0), ap length (two_more q (get_or ts i 0)), ap length (added_own (get_or ts i 0) y (added (get_or fs i 0) x lists)))
 
-    pub turn : EdgePlacePre n m directed (get_or fs i 0) (get_or ts i 0) i w
+    pub turn : PutPre n m (get_or fs i 0) i w
     turn =
         record {
           room = omega (arith, pre.room, h.front.long);
-          from = f_in;
-          to = t_in;
+          node = f_in;
           position = omega (arith, pre.sound.limits.edges);
           some = has n m ends long lists w₀ w (get_or fs i 0) x pre.room space h f_in left_from (λ v l. short (i + 1) v);
-          inside = λ v l. omega (arith, h.offs v l, space.inside v l);
-          other = λ q. omega (arith, h.offs (get_or ts i 0) t_in, space.fits (get_or ts i 0) t_in, left_to q, added_more (get_or fs i 0) x lists (get_or ts i 0));
+          inside = omega (arith, h.offs (get_or fs i 0) f_in, space.inside (get_or fs i 0) f_in);
         }
 
-    first : Holds n m ends (added (get_or fs i 0) x lists) w₀ (with_entry n m (get_or fs i 0) (get_or ts i 0) i w)
-    first = step_put n m ends long lists w₀ w (get_or fs i 0) x pre.room space h f_in left_from (λ v l. short (i + 1) v)
+    -- after the first entry
+    module _ {w1 : List ℕ} (e1 : w1 ≡ with_entry n m (get_or fs i 0) (get_or ts i 0) i w) where
+      first : Holds n m ends (added (get_or fs i 0) x lists) w₀ w1
+      first = rw e1 (step_put n m ends long lists w₀ w (get_or fs i 0) x pre.room space h f_in left_from (λ v l. short (i + 1) v))
 
-    second : once ≡ false → Holds n m ends (added (get_or ts i 0) y (added (get_or fs i 0) x lists)) w₀ (with_entry n m (get_or ts i 0) (get_or fs i 0) i (with_entry n m (get_or fs i 0) (get_or ts i 0) i w))
-    second q =
-        step_put n m ends long (added (get_or fs i 0) x lists) w₀ (with_entry n m (get_or fs i 0) (get_or ts i 0) i w) (get_or ts i 0) y pre.room space first t_in (left_to q) (short_two q)
+      pub step_one : once ≡ true → Holds n m ends (lists_from i) w₀ w1
+      step_one q = holds_same (one_more q) first
 
-    pub step : {w' : List ℕ} → w' ≡ edge_placed n m directed (get_or fs i 0) (get_or ts i 0) i w → Holds n m ends (lists_from i) w₀ w'
-    unfolding edge_placed
-    step z =
-        rw z
-        (⊎_elim
-        (λ q. rw q (holds_same (one_more q) first))
-        (λ q. rw q (holds_same (two_more q) (second q)))
-        (bool_cases once))
+      pub turn_two : once ≡ false → PutPre n m (get_or ts i 0) i w1
+      turn_two q =
+          record {
+            room = omega (arith, pre.room, first.front.long);
+            node = t_in;
+            position = omega (arith, pre.sound.limits.edges);
+            some = has n m ends long (added (get_or fs i 0) x lists) w₀ w1 (get_or ts i 0) y pre.room space first t_in (left_to q) (short_two q);
+            inside = omega (arith, first.offs (get_or ts i 0) t_in, space.inside (get_or ts i 0) t_in);
+          }
+
+      pub step_two : once ≡ false → {w2 : List ℕ} → w2 ≡ with_entry n m (get_or ts i 0) (get_or fs i 0) i w1 → Holds n m ends (lists_from i) w₀ w2
+      step_two q e2 =
+          rw e2
+          (holds_same (two_more q)
+          (step_put n m ends long (added (get_or fs i 0) x lists) w₀ w1 (get_or ts i 0) y pre.room space first t_in (left_to q) (short_two q)))
 
   pub done : (i : ℕ) (w : List ℕ) → i ≡ 0 → Holds n m ends (lists_from i) w₀ w → Placed n directed fs ts xs w₀ w
   done i w z h0 =

@@ -3,21 +3,19 @@ use mathlib.Core.Path.{◌≡◌, refl, sym, ap, ◌∙◌}
 use mathlib.Core.List.{List, [], ◌∷◌, ◌++◌, map, foldl, foldl-append}
 use Prim.Native.Nat.{ℕ, zero, suc, ◌+◌, ◌*◌, ◌-◌, ◌≤◌, ◌<◌}
 use native.Mathlib.Omega.{arith}
-use lib.ListN.{length, get_or}
-use lib.Ieee.{Float, nan}
-use Rattle.regions.specs.Region.{list_of}
+use lib.ListN.{length, get_or, take, drop, length-take, length-drop}
+use lib.Seq.{get_or-take, get_or-drop}
+use lib.Ieee.{Float, nan, binary64, add}
+use Rattle.std.proofs.lemmas.List.{map_push}
+use Rattle.regions.specs.Region.{list_of, zero_f}
 use Rattle.regions.proofs.Fronts.{list_more}
 use Rattle.graph.specs.Layout.{entries_at, beside_at}
-use Rattle.lists.specs.Lists.{place_at, long_at, list_at, Share, share, share_at, shares_at, ListsFit}
-
-map_snoc : {A B : Type 0} (f : A → B) (l : List A) (a : A) → map f (l ++ (a ∷ [])) ≡ map f l ++ (f a ∷ [])
-map_snoc f [] a = refl
-map_snoc {A} {B} f (x ∷ l) a = ap (λ (r : List B). f x ∷ r) (map_snoc f l a)
+use Rattle.lists.specs.Lists.{place_at, long_at, list_at, Share, share, share_at, shares_at, with_share, weight_of, ListsFit}
 
 map_list : {A B : Type 0} (f : A → B) (g : ℕ → A) (n : ℕ) → map f (list_of g n) ≡ list_of (λ k. f (g k)) n
 unfolding list_of
 map_list f g zero = refl
-map_list {A} {B} f g (suc n) = map_snoc f (list_of g n) (g n) ∙ ap (λ (r : List B). r ++ (f (g n) ∷ [])) (map_list f g n)
+map_list {A} {B} f g (suc n) = map_push f (list_of g n) (g n) ∙ ap (λ (r : List B). r ++ (f (g n) ∷ [])) (map_list f g n)
 
 -- ---- a fold over f 0, f 1, ..
 module _ {S A : Type 0} (turn : S → A → S) (s : S) (f : ℕ → A) where
@@ -87,3 +85,48 @@ module _ (n m : ℕ) (w : List ℕ) (fit : ListsFit n m w) (v : ℕ) (l : v < n)
 
   pub reads : (j : ℕ) → get_or w v 0 ≤ j → j < get_or w (v + 1) 0 → Reads j
   reads j a b = record { long = omega (arith, fit.room, fit.inside v l); target = fit.nodes v j l a b; position = fit.edges v j l a b }
+
+-- ---- the sum of the weights of v, as the code walks its edge positions
+module _ (n m : ℕ) (weight : List Float) (w : List ℕ) (v : ℕ) where
+  -- the edge positions, as a part of w
+  abbrev pub positions : List ℕ
+  positions = take (beside_at n m + get_or w (v + 1) 0 - (beside_at n m + get_or w v 0)) (drop (beside_at n m + get_or w v 0) w)
+
+  -- after i of them
+  abbrev pub summed : ℕ → Float
+  summed i = fold_to n m weight w v with_share zero_f (get_or w v 0 + i)
+
+  pub summed_none : zero_f ≡ summed 0
+  summed_none = walk_none n m weight w v with_share zero_f ∙ ap (fold_to n m weight w v with_share zero_f) (none (get_or w v 0))
+    where
+      none : (a : ℕ) → a ≡ a + 0
+      none a = omega arith
+
+  module _ (fit : ListsFit n m w) (l : v < n) where
+    pub positions_long : length positions ≡ get_or w (v + 1) 0 - get_or w v 0
+    positions_long = simp (length-take, length-drop) (omega (arith, offsets n m w fit v l))
+
+    position_is : (i : ℕ) → i < length positions → get_or positions i 0 ≡ get_or w (beside_at n m + (get_or w v 0 + i)) 0
+    position_is i q =
+        get_or-take (beside_at n m + get_or w (v + 1) 0 - (beside_at n m + get_or w v 0)) (drop (beside_at n m + get_or w v 0) w) i 0 (omega (arith, positions_long))
+        ∙ get_or-drop (beside_at n m + get_or w v 0) w i 0
+        ∙ ap (λ (k : ℕ). get_or w k 0) (same (get_or w v 0))
+      where
+        same : (a : ℕ) → beside_at n m + a + i ≡ beside_at n m + (a + i)
+        same a = omega arith
+
+    pub position_in : (i : ℕ) → i < length positions → get_or positions i 0 < m
+    position_in i q = rw (position_is i q) (reads n m w fit v l (get_or w v 0 + i) (omega arith) (omega (arith, positions_long))).position
+
+    pub summed_more : (i : ℕ) (sum : Float) → i < length positions → sum ≡ summed i → add binary64 sum (get_or weight (get_or positions i 0) nan) ≡ summed (i + 1)
+    summed_more i sum q e =
+        ap (λ (k : ℕ). add binary64 sum (get_or weight k nan)) (position_is i q)
+        ∙ walk_more n m weight w v with_share zero_f (get_or w v 0 + i) sum (omega arith) e
+        ∙ ap (fold_to n m weight w v with_share zero_f) (more (get_or w v 0))
+      where
+        more : (a : ℕ) → a + i + 1 ≡ a + (i + 1)
+        more a = omega arith
+
+    pub summed_all : (i : ℕ) → i ≡ length positions → summed i ≡ weight_of (shares_at n m weight w v)
+    unfolding weight_of
+    summed_all i e = walk_all n m weight w v with_share zero_f (get_or w v 0 + i) (omega (arith, positions_long, offsets n m w fit v l))

@@ -1,5 +1,5 @@
 -- What the walks of `lists` ask and leave: entries placed before those of their list. Definitions only.
-use Rattle.std.specs.Prelude.{◌≡◌, Bool, false, cond, ◌||◌, List, ℕ, ◌+◌, ◌*◌, ◌-◌, ◌≤◌, ◌<◌, eqb, length, get_or, set, Float}
+use Rattle.std.specs.Prelude.{◌≡◌, Bool, List, ℕ, ◌+◌, ◌*◌, ◌-◌, ◌≤◌, ◌<◌, length, get_or, set, Float}
 use Rattle.std.specs.Float.{nan}
 use Rattle.regions.specs.Region.{Front}
 use Rattle.graph.specs.Edges.{Edge, Entry, toward, edge, edges_of, weighted}
@@ -26,21 +26,6 @@ pub record PutPre (n m own at : ℕ) (w : List ℕ) : Type 0 where
   pub position : at < 32768
   pub some : 1 ≤ get_or w own 0
   pub inside : get_or w own 0 ≤ 2 * m
-
--- w after one edge gave its entries: one to its from and, undirected, one to its to unless that is its from
-unfoldable pub edge_placed : ℕ → ℕ → Bool → ℕ → ℕ → ℕ → List ℕ → List ℕ
-edge_placed n m directed f t at w =
-    cond (directed || eqb f t) (with_entry n m f t at w) (with_entry n m t f at (with_entry n m f t at w))
-
--- what `place_edge` asks: ends that are nodes, a free place for each entry that the edge gives, its position, and room for the lists
-pub record EdgePlacePre (n m : ℕ) (directed : Bool) (f t at : ℕ) (w : List ℕ) : Type 0 where
-  pub room : lists_front n m ≤ length w
-  pub from : f < n
-  pub to : t < n
-  pub position : at < 32768
-  pub some : 1 ≤ get_or w f 0
-  pub inside : (v : ℕ) → v < n → get_or w v 0 ≤ 2 * m
-  pub other : (directed || eqb f t) ≡ false → 1 ≤ get_or w t 0
 
 -- ---- all edges
 

@@ -3,98 +3,79 @@
 // first: each list is filled from its far end, and so stands in edge order.
 #![tactic(auto)]
 
-ghost use Rattle.std.specs.Prelude.{◌≡◌, ◌+◌, ◌≤◌, ◌<◌, length, get_or};
+ghost use Rattle.std.specs.Prelude.{◌≡◌, ◌<◌, length};
+ghost use Rattle.graph.specs.Given.{of_graph, of_edges};
 ghost use Rattle.lists.specs.Lists.{weight_of, shares_at, ListsFit, BuildPre, Built, OutPre, OutWeights};
-ghost use Rattle.lists.specs.Walks.{with_entry, PutPre, edge_placed, EdgePlacePre, PlacePre, Placed};
+ghost use Rattle.lists.specs.Walks.{with_entry, PutPre, PlacePre, Placed};
+
+use graph::Graph;
 
 // Builds the lists of all nodes: n + 1 offsets, then the targets, then the edge positions.
-pub fn build_lists(
-    nodes: usize,
-    directed: bool,
-    from: &[u32],
-    to: &[u32],
-    weight: &[f64],
-    w: &mut [u32],
-)
-    requires { BuildPre nodes from.now to.now weight.now w.old }
-    ensures { Built nodes directed from.now to.now weight.now w.old w.new }
+pub fn build_lists(graph: Graph<'_>, w: &mut [u32])
+    requires { of_edges BuildPre graph w.old }
+    ensures { of_graph Built graph.entry w.old w.new }
 {
-    regions::wipe32(w, nodes + 1);
-    rows::count_entries(nodes, directed, from, to, w);
-    rows::sum_counts(nodes, w);
-    place_entries(nodes, directed, from, to, weight, w);
+    regions::wipe(w, graph.nodes + 1);
+    rows::count_entries(graph, w);
+    rows::sum_counts(graph.nodes, w);
+    place_entries(graph, w);
 }
 
-// The out-weight of each node: the weights of its list, added in edge order.
-pub fn out_weights(nodes: usize, edges: usize, weight: &[f64], w: &[u32], wf: &mut [f64])
-    requires { OutPre nodes edges weight.now w.now wf.old }
-    ensures { OutWeights nodes edges weight.now w.now wf.old wf.new }
+// The out-weight of each node, in the third region of n numbers.
+pub fn out_weights(graph: Graph<'_>, w: &[u32], wf: &mut [f64])
+    requires { OutPre graph.nodes (length graph.from.now) graph.weight.now w.now wf.old }
+    ensures { OutWeights graph.entry.nodes (length graph.entry.from.now) graph.entry.weight.now w.now wf.old wf.new }
 {
-    let base = 2 * nodes;
-    let mut v = 0;
-    while v < nodes {
-        wf[base + v] = out_weight(nodes, edges, weight, w, v);
-        v += 1;
+    let base = 2 * graph.nodes;
+    for v in 0..graph.nodes {
+        wf[base + v] = out_weight(graph, w, v);
     }
 }
 
-fn out_weight(nodes: usize, edges: usize, weight: &[f64], w: &[u32], v: usize) -> f64
-    requires { ListsFit nodes edges w.now × (length weight.now ≡ edges) × (v < nodes) }
-    ensures { result ≡ weight_of (shares_at nodes edges weight.now w.now v) }
+// The weights of the list of v, added in edge order.
+fn out_weight(graph: Graph<'_>, w: &[u32], v: usize) -> f64
+    requires { ListsFit graph.nodes (length graph.from.now) w.now × (length graph.weight.now ≡ length graph.from.now) × (v < graph.nodes) }
+    ensures { result ≡ weight_of (shares_at graph.entry.nodes (length graph.entry.from.now) graph.entry.weight.now w.now v) }
 {
-    let beside = nodes + 1 + 2 * edges;
-    let end = w[v + 1] as usize;
-    let mut k = w[v] as usize;
+    let Graph {
+        nodes,
+        from,
+        weight,
+        ..
+    } = graph;
+    let beside = nodes + 1 + 2 * from.len();
     let mut sum = 0.0;
-    while k < end {
-        sum = sum + weight[w[beside + k] as usize];
-        k += 1;
+    for at in &w[beside + w[v] as usize..beside + w[v + 1] as usize] {
+        sum += weight[*at as usize];
     }
     sum
 }
 
-// The entries of the edges, from the last to the first.
-fn place_entries(
-    nodes: usize,
-    directed: bool,
-    from: &[u32],
-    to: &[u32],
-    weight: &[f64],
-    w: &mut [u32],
-)
-    requires { PlacePre nodes directed from.now to.now weight.now w.old }
-    ensures { Placed nodes directed from.now to.now weight.now w.old w.new }
+// The entries of the edges, from the last to the first: one for its from and, undirected, one for its to unless that is its from.
+fn place_entries(graph: Graph<'_>, w: &mut [u32])
+    requires { of_graph PlacePre graph w.old }
+    ensures { of_graph Placed graph.entry w.old w.new }
 {
-    let edges = from.len();
-    let mut left = edges;
-    while 0 < left {
-        left -= 1;
-        place_edge(nodes, edges, directed, from[left], to[left], left, w);
+    let Graph {
+        directed,
+        from,
+        to,
+        ..
+    } = graph;
+    for i in (0..from.len()).rev() {
+        put(graph, from[i] as usize, to[i], i, w);
+        if !directed && from[i] != to[i] {
+            put(graph, to[i] as usize, from[i], i, w);
+        }
     }
 }
 
-// One edge: an entry for its from and, undirected, one for its to unless that is its from.
-fn place_edge(nodes: usize, edges: usize, directed: bool, f: u32, t: u32, at: usize, w: &mut [u32])
-    requires { EdgePlacePre nodes edges directed f t at w.old }
-    ensures { w.new ≡ edge_placed nodes edges directed f t at w.old }
+// An entry before the last one of its list: the row of targets takes it, and its edge's position stands beside it.
+fn put(graph: Graph<'_>, own: usize, other: u32, at: usize, w: &mut [u32])
+    requires { PutPre graph.nodes (length graph.from.now) own at w.old }
+    ensures { w.new ≡ with_entry graph.entry.nodes (length graph.entry.from.now) own other at w.old }
 {
-    put(nodes, edges, f as usize, t, at, w);
-    if directed {
-        return;
-    }
-    if f == t {
-        return;
-    }
-    put(nodes, edges, t as usize, f, at, w);
-}
-
-// An entry before the last one of its list.
-fn put(nodes: usize, edges: usize, own: usize, other: u32, at: usize, w: &mut [u32])
-    requires { PutPre nodes edges own at w.old }
-    ensures { w.new ≡ with_entry nodes edges own other at w.old }
-{
-    let p = w[own] - 1;
-    w[own] = p;
-    w[nodes + 1 + p as usize] = other;
-    w[nodes + 1 + 2 * edges + p as usize] = at as u32;
+    let entries = graph.nodes + 1;
+    let place = rows::put(entries, own, other, w);
+    w[entries + 2 * graph.from.len() + place] = at as u32;
 }

@@ -23,7 +23,8 @@ use Rattle.eigenvector.specs.Eigenvector.{eigen_outcome}
 use Rattle.katz.specs.Katz.{katz_outcome}
 use Rattle.job.specs.Run.{run_outcome}
 use Rattle.boundary.specs.declared.Settings.{Settings}
-use Rattle.boundary.specs.Boundary.{raised, asked, returned, reported, counted, run_voiced, voiced}
+use Rattle.boundary.specs.Boundary.{raised, asked, returned, reported, counted, voiced}
+use Rattle.meadowrut.specs.Voiced.{run_voiced}
 
 -- a contract "what is left equals o" has no second outcome: what is returned, the result slice and the workspace are one
 abbrev pub NoSecond : {A R : Type 0} → Left A R → Type 0

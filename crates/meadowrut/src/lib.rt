@@ -22,9 +22,11 @@ ghost use Rattle.personalized_pagerank.specs.Personalized.{personalized_outcome}
 ghost use Rattle.eigenvector.specs.Eigenvector.{eigen_outcome};
 ghost use Rattle.katz.specs.Katz.{katz_outcome};
 ghost use Rattle.job.specs.Run.{run_outcome};
-ghost use Rattle.boundary.specs.Boundary.{raised, asked, returned, reported, counted, run_voiced, voiced};
+ghost use Rattle.boundary.specs.Boundary.{raised, asked, returned, reported, counted, voiced};
+ghost use Rattle.meadowrut.specs.Voiced.{run_voiced};
 
 use boundary::{Election, Report, Settings, Text};
+use graph::Graph;
 
 #[unsafe(no_mangle)]
 pub extern "C" fn meadowrut_sqrt(x: f64) -> f64
@@ -51,12 +53,7 @@ pub extern "C" fn meadowrut_max(x: f64, y: f64) -> f64
 pub extern "C" fn meadowrut_usual() -> Settings
     ensures { result ≡ returned usual_settings }
 {
-    let usual = answers::Settings::usual();
-    Settings {
-        damping: usual.damping,
-        tolerance: usual.tolerance,
-        limit: usual.limit,
-    }
+    Settings::from(answers::Settings::usual())
 }
 
 #[unsafe(no_mangle)]
@@ -70,7 +67,8 @@ pub extern "C" fn meadowrut_degree(
 ) -> u32
     ensures { left result scores.new [] [] [] ≡ in_numbers (degree_outcome (given nodes (raised directed) from.now to.now weight.now scores.old [] [] [])) }
 {
-    answers::plain_number(degree::degree(nodes, directed != 0, from, to, weight, scores))
+    let graph = graph_of(nodes, directed, from, to, weight);
+    answers::number_said(degree::degree(graph, scores))
 }
 
 #[unsafe(no_mangle)]
@@ -84,7 +82,8 @@ pub extern "C" fn meadowrut_in_degree(
 ) -> u32
     ensures { left result scores.new [] [] [] ≡ in_numbers (in_degree_outcome (given nodes (raised directed) from.now to.now weight.now scores.old [] [] [])) }
 {
-    answers::plain_number(degree::in_degree(nodes, directed != 0, from, to, weight, scores))
+    let graph = graph_of(nodes, directed, from, to, weight);
+    answers::number_said(degree::in_degree(graph, scores))
 }
 
 #[unsafe(no_mangle)]
@@ -98,7 +97,8 @@ pub extern "C" fn meadowrut_out_degree(
 ) -> u32
     ensures { left result scores.new [] [] [] ≡ in_numbers (out_degree_outcome (given nodes (raised directed) from.now to.now weight.now scores.old [] [] [])) }
 {
-    answers::plain_number(degree::out_degree(nodes, directed != 0, from, to, weight, scores))
+    let graph = graph_of(nodes, directed, from, to, weight);
+    answers::number_said(degree::out_degree(graph, scores))
 }
 
 #[unsafe(no_mangle)]
@@ -117,19 +117,8 @@ pub extern "C" fn meadowrut_survey(
 ) -> u32
     ensures { left result (results distances.new counts.new) w32.new w64.new wf.new ≡ in_numbers (survey_outcome start (given nodes (raised directed) from.now to.now weight.now (results distances.old counts.old) w32.old w64.old wf.old)) }
 {
-    answers::plain_number(survey::survey(
-        nodes,
-        directed != 0,
-        from,
-        to,
-        weight,
-        start,
-        distances,
-        counts,
-        w32,
-        w64,
-        wf,
-    ))
+    let graph = graph_of(nodes, directed, from, to, weight);
+    answers::number_said(survey::survey(graph, start, distances, counts, w32, w64, wf))
 }
 
 #[unsafe(no_mangle)]
@@ -147,18 +136,8 @@ pub extern "C" fn meadowrut_betweenness(
 ) -> u32
     ensures { left result scores.new w32.new w64.new wf.new ≡ in_numbers (betweenness_outcome (raised normalized) (given nodes (raised directed) from.now to.now weight.now scores.old w32.old w64.old wf.old)) }
 {
-    answers::plain_number(betweenness::betweenness(
-        nodes,
-        directed != 0,
-        from,
-        to,
-        weight,
-        normalized != 0,
-        scores,
-        w32,
-        w64,
-        wf,
-    ))
+    let graph = graph_of(nodes, directed, from, to, weight);
+    answers::number_said(betweenness::betweenness(graph, normalized != 0, scores, w32, w64, wf))
 }
 
 #[unsafe(no_mangle)]
@@ -177,12 +156,9 @@ pub extern "C" fn meadowrut_edge_betweenness(
 ) -> u32
     ensures { left result (edge_scores forward.new back.new) w32.new w64.new wf.new ≡ in_numbers (edge_betweenness_outcome (raised normalized) (given nodes (raised directed) from.now to.now weight.now (edge_scores forward.old back.old) w32.old w64.old wf.old)) }
 {
-    answers::plain_number(edge_betweenness::edge_betweenness(
-        nodes,
-        directed != 0,
-        from,
-        to,
-        weight,
+    let graph = graph_of(nodes, directed, from, to, weight);
+    answers::number_said(edge_betweenness::edge_betweenness(
+        graph,
         normalized != 0,
         forward,
         back,
@@ -207,18 +183,8 @@ pub extern "C" fn meadowrut_local_reaching(
 ) -> u32
     ensures { left result scores.new w32.new w64.new wf.new ≡ in_numbers (reaching_outcome hops (given nodes (raised directed) from.now to.now weight.now scores.old w32.old w64.old wf.old)) }
 {
-    answers::plain_number(reaching::local_reaching(
-        nodes,
-        directed != 0,
-        from,
-        to,
-        weight,
-        hops,
-        scores,
-        w32,
-        w64,
-        wf,
-    ))
+    let graph = graph_of(nodes, directed, from, to, weight);
+    answers::number_said(reaching::local_reaching(graph, hops, scores, w32, w64, wf))
 }
 
 #[unsafe(no_mangle)]
@@ -235,17 +201,8 @@ pub extern "C" fn meadowrut_global_reaching(
 ) -> u32
     ensures { left result scores.new w32.new w64.new wf.new ≡ in_numbers (global_outcome (given nodes (raised directed) from.now to.now weight.now scores.old w32.old w64.old wf.old)) }
 {
-    answers::plain_number(reaching::global_reaching(
-        nodes,
-        directed != 0,
-        from,
-        to,
-        weight,
-        scores,
-        w32,
-        w64,
-        wf,
-    ))
+    let graph = graph_of(nodes, directed, from, to, weight);
+    answers::number_said(reaching::global_reaching(graph, scores, w32, w64, wf))
 }
 
 #[unsafe(no_mangle)]
@@ -262,17 +219,8 @@ pub extern "C" fn meadowrut_laplacian(
 ) -> u32
     ensures { left result scores.new w32.new w64.new wf.new ≡ in_numbers (laplacian_outcome (given nodes (raised directed) from.now to.now weight.now scores.old w32.old w64.old wf.old)) }
 {
-    answers::plain_number(laplacian::laplacian(
-        nodes,
-        directed != 0,
-        from,
-        to,
-        weight,
-        scores,
-        w32,
-        w64,
-        wf,
-    ))
+    let graph = graph_of(nodes, directed, from, to, weight);
+    answers::number_said(laplacian::laplacian(graph, scores, w32, w64, wf))
 }
 
 #[unsafe(no_mangle)]
@@ -290,19 +238,9 @@ pub extern "C" fn meadowrut_voterank(
 ) -> Election
     ensures { left result elected.new w32.new w64.new wf.new ≡ voiced counted (voterank_outcome seeds (given nodes (raised directed) from.now to.now weight.now elected.old w32.old w64.old wf.old)) }
 {
-    let said = voterank::voterank(
-        nodes,
-        directed != 0,
-        from,
-        to,
-        weight,
-        seeds,
-        elected,
-        w32,
-        w64,
-        wf,
-    );
-    boundary::election_of(said)
+    let graph = graph_of(nodes, directed, from, to, weight);
+    let said = voterank::voterank(graph, seeds, elected, w32, w64, wf);
+    Election::from(said)
 }
 
 #[unsafe(no_mangle)]
@@ -322,22 +260,10 @@ pub extern "C" fn meadowrut_pagerank(
 ) -> Report
     ensures { left result scores.new w32.new w64.new wf.new ≡ voiced reported (pagerank_outcome (asked settings) (raised given) start.now (lent nodes (raised directed) from.now to.now weight.now scores.old w32.old w64.old wf.old)) }
 {
-    let asked = boundary::settings_of(settings);
-    let ended = pagerank::pagerank(
-        nodes,
-        directed != 0,
-        from,
-        to,
-        weight,
-        asked,
-        given != 0,
-        start,
-        scores,
-        w32,
-        w64,
-        wf,
-    );
-    boundary::report_of(ended)
+    let graph = graph_of(nodes, directed, from, to, weight);
+    let asked = answers::Settings::from(settings);
+    let said = pagerank::pagerank(graph, asked, given != 0, start, scores, w32, w64, wf);
+    Report::from(said)
 }
 
 #[unsafe(no_mangle)]
@@ -357,13 +283,10 @@ pub extern "C" fn meadowrut_personalized_pagerank(
 ) -> Report
     ensures { left result scores.new w32.new w64.new wf.new ≡ voiced reported (personalized_outcome (asked settings) (raised given) personalization.now (lent nodes (raised directed) from.now to.now weight.now scores.old w32.old w64.old wf.old)) }
 {
-    let asked = boundary::settings_of(settings);
-    let ended = personalized_pagerank::personalized_pagerank(
-        nodes,
-        directed != 0,
-        from,
-        to,
-        weight,
+    let graph = graph_of(nodes, directed, from, to, weight);
+    let asked = answers::Settings::from(settings);
+    let said = personalized_pagerank::personalized_pagerank(
+        graph,
         asked,
         given != 0,
         personalization,
@@ -372,7 +295,7 @@ pub extern "C" fn meadowrut_personalized_pagerank(
         w64,
         wf,
     );
-    boundary::report_of(ended)
+    Report::from(said)
 }
 
 #[unsafe(no_mangle)]
@@ -390,20 +313,10 @@ pub extern "C" fn meadowrut_eigenvector(
 ) -> Report
     ensures { left result scores.new w32.new w64.new wf.new ≡ voiced reported (eigen_outcome (asked settings) (lent nodes (raised directed) from.now to.now weight.now scores.old w32.old w64.old wf.old)) }
 {
-    let asked = boundary::settings_of(settings);
-    let ended = eigenvector::eigenvector(
-        nodes,
-        directed != 0,
-        from,
-        to,
-        weight,
-        asked,
-        scores,
-        w32,
-        w64,
-        wf,
-    );
-    boundary::report_of(ended)
+    let graph = graph_of(nodes, directed, from, to, weight);
+    let asked = answers::Settings::from(settings);
+    let said = eigenvector::eigenvector(graph, asked, scores, w32, w64, wf);
+    Report::from(said)
 }
 
 #[unsafe(no_mangle)]
@@ -423,27 +336,38 @@ pub extern "C" fn meadowrut_katz(
 ) -> Report
     ensures { left result scores.new w32.new w64.new wf.new ≡ voiced reported (katz_outcome (asked settings) (raised given) beta.now (lent nodes (raised directed) from.now to.now weight.now scores.old w32.old w64.old wf.old)) }
 {
-    let asked = boundary::settings_of(settings);
-    let ended = katz::katz(
-        nodes,
-        directed != 0,
-        from,
-        to,
-        weight,
-        asked,
-        given != 0,
-        beta,
-        scores,
-        w32,
-        w64,
-        wf,
-    );
-    boundary::report_of(ended)
+    let graph = graph_of(nodes, directed, from, to, weight);
+    let asked = answers::Settings::from(settings);
+    let said = katz::katz(graph, asked, given != 0, beta, scores, w32, w64, wf);
+    Report::from(said)
 }
 
 #[unsafe(no_mangle)]
 pub extern "C" fn meadowrut_run(input: &[u8], output: &mut [u8]) -> Text
     ensures { left result output.new [] [] [] ≡ run_voiced (run_outcome input.now output.old) }
 {
-    boundary::text_of(job::run(input, output))
+    Text::from(job::run(input, output))
+}
+
+// The graph that C lends: directed unless the flag is 0.
+fn graph_of<'a>(
+    nodes: usize,
+    directed: u32,
+    from: &'a [u32],
+    to: &'a [u32],
+    weight: &'a [f64],
+) -> Graph<'a>
+    ensures nodes_are { result.nodes ≡ nodes }
+    ensures kind_is { result.directed ≡ raised directed }
+    ensures from_is { result.from.now ≡ from.now }
+    ensures to_is { result.to.now ≡ to.now }
+    ensures weight_is { result.weight.now ≡ weight.now }
+{
+    Graph {
+        nodes,
+        directed: directed != 0,
+        from,
+        to,
+        weight,
+    }
 }

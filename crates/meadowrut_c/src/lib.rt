@@ -22,7 +22,8 @@ ghost use Rattle.personalized_pagerank.specs.Personalized.{personalized_outcome}
 ghost use Rattle.eigenvector.specs.Eigenvector.{eigen_outcome};
 ghost use Rattle.katz.specs.Katz.{katz_outcome};
 ghost use Rattle.job.specs.Run.{run_outcome};
-ghost use Rattle.boundary.specs.Boundary.{raised, asked, returned, reported, counted, run_voiced, voiced};
+ghost use Rattle.boundary.specs.Boundary.{raised, asked, returned, reported, counted, voiced};
+ghost use Rattle.meadowrut.specs.Voiced.{run_voiced};
 
 use boundary::{Election, Report, Settings, Text};
 

@@ -2,6 +2,7 @@
 use Rattle.std.specs.Prelude.{List, [], ℕ, Float}
 use Rattle.graph.specs.Given.{Given, given}
 use Rattle.lines.specs.declared.Top.{Top}
+use Rattle.outcomes.specs.declared.Task.{Task}
 
 -- what is lent to a measure: the graph, slots for its results, and a workspace
 pub record Lent : Type 0 where
@@ -17,6 +18,10 @@ pub record Lent : Type 0 where
 -- what is lent, from its parts
 abbrev pub lent : List ℕ → List ℕ → List Float → List Float → List ℕ → List ℕ → List ℕ → List Float → Lent
 lent from to weight scores elected w32 w64 wf = record { from = from; to = to; weight = weight; scores = scores; elected = elected; w32 = w32; w64 = w64; wf = wf }
+
+-- what is lent, from a task, the slots and the workspace
+abbrev pub lent_with : Task → List Float → List ℕ → List ℕ → List ℕ → List Float → Lent
+lent_with task scores elected w32 w64 wf = lent task.from.now task.to.now task.weight.now scores elected w32 w64 wf
 
 -- what a measure that gives scores is given
 abbrev pub given_scores : Top → Lent → Given (List Float)

@@ -1,6 +1,6 @@
 -- The answer's text of what a call says, and the settings of a job.
 -- Definitions only. Document 01, "The command program".
-use Rattle.std.specs.Prelude.{Bool, true, false, List, ℕ, take, Float}
+use Rattle.std.specs.Prelude.{None, Some, List, ℕ, take, Float}
 use Rattle.std.specs.Float.{binary64}
 use Rattle.std.specs.Float.Ieee.{of_bits}
 use Rattle.answers.specs.Answers.{Said, done, refusal}
@@ -9,8 +9,6 @@ use Rattle.answers.specs.declared.Rounds.{Rounds}
 use Rattle.answers.specs.declared.Settings.{Settings}
 use Rattle.lines.specs.declared.Measure.{Measure}
 use Rattle.lines.specs.declared.Top.{Top}
-use Rattle.reply.specs.declared.Settled.{Settled}
-use Rattle.reply.specs.declared.Settled.TheVariants.{Yes, No, Neither}
 use Rattle.reply.specs.Reply.{answer_text, election_text, refusal_text}
 
 -- a refusal prints its number and no line; else the values make the text
@@ -18,18 +16,13 @@ abbrev pub said_text : {Values : Type 0} → Said Values → (Values → List �
 said_text (done values) text = text values
 said_text (refusal number) text = refusal_text number 0
 
--- settled is yes or no where there are rounds
-abbrev pub settled_is : Bool → Settled
-settled_is true = Yes
-settled_is false = No
-
 -- the text of a measure without rounds: the first n scores
 abbrev pub plain_text : Measure → ℕ → Said (Unit {0}) → List Float → List ℕ
-plain_text measure n says scores = said_text says (λ _. answer_text measure n 0 Neither (take n scores))
+plain_text measure n says scores = said_text says (λ _. answer_text measure n 0 None (take n scores))
 
 -- the text of an iterative measure: the rounds done, whether they settled, and the first n scores
 abbrev pub ended_text : Measure → ℕ → Said Rounds → List Float → List ℕ
-ended_text measure n says scores = said_text says (λ r. answer_text measure n r.rounds (settled_is r.settled) (take n scores))
+ended_text measure n says scores = said_text says (λ r. answer_text measure n r.rounds (Some r.settled) (take n scores))
 
 -- the text of an election: as many nodes as were elected
 abbrev pub elected_text : ℕ → Said ℕ → List ℕ → List ℕ

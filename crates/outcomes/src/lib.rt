@@ -1,16 +1,50 @@
-// What a call said, written to the output as the answer's text; and the settings that a job asks for.
+// What a measure of a job is asked, and what its call said, written to the output as the answer's text.
 #![tactic(auto)]
 
-ghost use Rattle.std.specs.Prelude.{◌≡◌, min, length};
+ghost use Rattle.std.specs.Prelude.{◌≡◌, length, take};
 ghost use Rattle.text.specs.Written.{Written};
-ghost use Rattle.answers.specs.Answers.{number_of, said_plain, said_ended, said_elected};
-ghost use Rattle.reply.specs.Reply.{refusal_text};
-ghost use Rattle.outcomes.specs.Texts.{settled_is, settings_of, plain_text, ended_text, elected_text};
+ghost use Rattle.answers.specs.Answers.{number_of, said_by};
+ghost use Rattle.reply.specs.Reply.{answer_text, refusal_text};
+ghost use Rattle.outcomes.specs.Texts.{said_text, settings_of, plain_text, ended_text, elected_text};
 ghost use Rattle.outcomes.specs.Pres.{Room, Fits, Few};
 
-use answers::{Answer, Elected, Ended, Plain, Settings};
+use answers::{Answer, Refusal, Rounds, Settings};
+use graph::Graph;
 use lines::{Measure, Top};
-use reply::Settled;
+
+// What a measure is asked: the lines `kind` to `tolerance` of its job, and the job's edges.
+#[derive(Clone, Copy)]
+pub struct Task<'a> {
+    pub top: Top,
+    pub from: &'a [u32],
+    pub to: &'a [u32],
+    pub weight: &'a [f64],
+}
+
+impl<'a> Task<'a> {
+    // The graph, as the calls are lent it.
+    pub fn graph(self) -> Graph<'a>
+        ensures nodes_are { result.nodes ≡ self.entry.top.nodes }
+        ensures kind_is { result.directed ≡ self.entry.top.directed }
+        ensures from_is { result.from.now ≡ self.entry.from.now }
+        ensures to_is { result.to.now ≡ self.entry.to.now }
+        ensures weight_is { result.weight.now ≡ self.entry.weight.now }
+    {
+        let Task {
+            top,
+            from,
+            to,
+            weight,
+        } = self;
+        Graph {
+            nodes: top.nodes as usize,
+            directed: top.directed,
+            from,
+            to,
+            weight,
+        }
+    }
+}
 
 // The settings of a job, with doubles of its bits.
 pub fn settings_of(top: Top) -> Settings
@@ -28,27 +62,13 @@ pub fn put_plain(
     output: &mut [u8],
     measure: Measure,
     nodes: usize,
-    said: Plain,
+    said: Result<(), Refusal>,
     scores: &[f64],
 ) -> usize
     requires { Room output.old × Fits nodes (length scores.now) }
-    ensures { Written (plain_text measure nodes (said_plain said) scores.now) output.old 0 output.new result }
+    ensures { Written (plain_text measure nodes (said_by said) scores.now) output.old 0 output.new result }
 {
-    match said {
-        Plain::Done => reply::put_answer(
-            output,
-            0,
-            measure,
-            nodes as u64,
-            0,
-            Settled::Neither,
-            &scores[..nodes],
-        ),
-        Plain::Refused(r) => {
-            let answer = r.answer;
-            put_refusal(output, answer, 0)
-        }
-    }
+    put_scores(output, measure, nodes, said.map(|()| (0, None)), scores)
 }
 
 // Writes what an iterative measure says.
@@ -56,43 +76,62 @@ pub fn put_ended(
     output: &mut [u8],
     measure: Measure,
     nodes: usize,
-    said: Ended,
+    said: Result<Rounds, Refusal>,
     scores: &[f64],
 ) -> usize
     requires { Room output.old × Fits nodes (length scores.now) }
-    ensures { Written (ended_text measure nodes (said_ended said) scores.now) output.old 0 output.new result }
+    ensures { Written (ended_text measure nodes (said_by said) scores.now) output.old 0 output.new result }
+{
+    put_scores(
+        output,
+        measure,
+        nodes,
+        said.map(|r| (r.rounds, Some(r.settled))),
+        scores,
+    )
+}
+
+// Writes the first scores, with the rounds that made them and whether these settled, or a refusal.
+fn put_scores(
+    output: &mut [u8],
+    measure: Measure,
+    nodes: usize,
+    said: Result<(u64, Option<bool>), Refusal>,
+    scores: &[f64],
+) -> usize
+    requires { Room output.old × Fits nodes (length scores.now) }
+    ensures { Written (said_text (said_by said) (λ r. answer_text measure nodes r.0 r.1 (take nodes scores.now))) output.old 0 output.new result }
 {
     match said {
-        Ended::Done(r) => reply::put_answer(
+        Ok((rounds, settled)) => reply::put_answer(
             output,
             0,
             measure,
             nodes as u64,
-            r.rounds,
-            settled(r.settled),
+            rounds,
+            settled,
             &scores[..nodes],
         ),
-        Ended::Refused(r) => {
-            let answer = r.answer;
-            put_refusal(output, answer, 0)
-        }
+        Err(refusal) => put_refusal(output, refusal.answer, 0),
     }
 }
 
 // Writes what an election says.
-pub fn put_elected(output: &mut [u8], nodes: usize, said: Elected, elected: &[u32]) -> usize
+pub fn put_elected(
+    output: &mut [u8],
+    nodes: usize,
+    said: Result<usize, Refusal>,
+    elected: &[u32],
+) -> usize
     requires { Room output.old × Few (length elected.now) }
-    ensures { Written (elected_text nodes (said_elected said) elected.now) output.old 0 output.new result }
+    ensures { Written (elected_text nodes (said_by said) elected.now) output.old 0 output.new result }
 {
     match said {
-        Elected::Done(count) => {
-            let k = least(count, elected.len());
+        Ok(count) => {
+            let k = count.min(elected.len());
             reply::put_election(output, 0, nodes as u64, &elected[..k])
         }
-        Elected::Refused(r) => {
-            let answer = r.answer;
-            put_refusal(output, answer, 0)
-        }
+        Err(refusal) => put_refusal(output, refusal.answer, 0),
     }
 }
 
@@ -101,25 +140,5 @@ pub fn put_refusal(output: &mut [u8], answer: Answer, line: u64) -> usize
     requires { Room output.old }
     ensures { Written (refusal_text (number_of answer) line) output.old 0 output.new result }
 {
-    reply::put_refusal(output, 0, answers::number(answer) as u64, line)
-}
-
-// The smaller of two numbers.
-fn least(a: usize, b: usize) -> usize
-    ensures { result ≡ min a b }
-{
-    if a < b {
-        return a;
-    }
-    b
-}
-
-// Whether the rounds settled, as the answer says it.
-fn settled(met: bool) -> Settled
-    ensures { result ≡ settled_is met }
-{
-    if met {
-        return Settled::Yes;
-    }
-    Settled::No
+    reply::put_refusal(output, 0, u64::from(u32::from(answer)), line)
 }

@@ -1,13 +1,15 @@
 -- How `pagerank` begins and ends: the start divided by its sum, and what is left is the outcome. Assumes nothing.
-use Rattle.std.proofs.Common.{◌≡◌, ℕ, ◌*◌, ◌≤◌, Bool, false, eqb, List, length, ap, ◌∙◌, arith}
+use Rattle.std.proofs.Common.{◌≡◌, ℕ, ◌*◌, ◌≤◌, Bool, false, eqb, ltb, List, length, ap, ◌∙◌, arith}
 use lib.Ieee.{Float, nan}
 use Rattle.regions.specs.Region.{list_of, Front}
 use Rattle.regions.proofs.Fronts.{front_wide, front_then}
 use Rattle.regions.proofs.Frames.{frame_front, frame_part}
-use Rattle.answers.specs.declared.Answer.{Answer}
+use Rattle.std.specs.Prelude.{Result}
+use Rattle.answers.specs.declared.Refusal.{Refusal}
 use Rattle.answers.specs.declared.Settings.{Settings}
 use Rattle.answers.specs.declared.Rounds.{Rounds}
-use Rattle.answers.specs.Answers.{Said}
+use Rattle.answers.specs.Answers.{Said, refused_if}
+use Rattle.graph.specs.declared.Fronts.{Fronts}
 use Rattle.graph.specs.Fronts.{usual_fronts}
 use Rattle.graph.specs.Given.{Given, graph_in}
 use Rattle.graph.specs.Left.{Left}
@@ -15,12 +17,13 @@ use Rattle.graph.specs.Pres.{Ready, Passed}
 use Rattle.graph.specs.Refusals.{first_refusal}
 use Rattle.graph.proofs.Left.{went_on}
 use Rattle.lists.specs.Lists.{Share}
+use Rattle.rounds.specs.declared.Own.{Own}
 use Rattle.rounds.specs.Rounds.{outcome}
-use Rattle.rounds.specs.Tests.{reads_wrong, length_wrong, iterative_tests}
+use Rattle.rounds.specs.Tests.{reads_wrong, length_wrong, own_tests}
 use Rattle.rounds.specs.Ending.{scored}
 use Rattle.rounds.specs.Steps.{RoundsDone}
 use Rattle.rounds.specs.Vectors.{current_in}
-use Rattle.rounds.proofs.Tests.{iterative_ready, iterative_fits, length_right}
+use Rattle.rounds.proofs.Tests.{checked, iterative_ready, iterative_fits, length_right}
 use Rattle.links.specs.Links.{Links, links_of, links_in, shares_in, outs_in, divisor_of, divided_at, divided}
 use Rattle.links.specs.Steps.{LinksPre, Prepared, written_by, DividePre, Divided}
 use Rattle.links.proofs.Turns.{shares_kept}
@@ -31,17 +34,12 @@ use Rattle.pagerank.specs.PageRank.{pagerank_step, pagerank_rounds, start_wrong,
 -- ---- `pagerank`
 module _ (settings : Settings) (flag : Bool) (start : List Float) (g : Given (List Float)) where
   -- the tests as the code found them
-  pub answered : {a : Answer} {b c d : Bool} {sum : Float}
-      → a ≡ first_refusal (iterative_tests g false (record { number = b; damping = false; rounds = false; lengths = c; start = d }))
+  pub answered : {x : Result (Unit {0}) Refusal} {l : Fronts} {b c d : Bool} {sum : Float} → (l.narrow ≡ length g.w32) × (l.wide ≡ length g.w64) × (l.floats ≡ length g.wf)
       → b ≡ reads_wrong g.weight settings.damping settings.tolerance flag start → c ≡ length_wrong flag (length start) g.nodes → d ≡ start_wrong flag g.nodes sum → sum ≡ divisor_of flag start g.nodes
-      → a ≡ first_refusal (pagerank_tests settings flag start g)
-  answered {a} {b} {c} {d} {sum} e eb ec ed es =
-      e
-      ∙ ap (λ (z : Bool). first_refusal (iterative_tests g false (record { number = z; damping = false; rounds = false; lengths = c; start = d }))) eb
-      ∙ ap (λ (z : Bool). first_refusal (iterative_tests g false (record { number = reads_wrong g.weight settings.damping settings.tolerance flag start; damping = false; rounds = false; lengths = z; start = d }))) ec
-      ∙ ap
-      (λ (z : Bool). first_refusal (iterative_tests g false (record { number = reads_wrong g.weight settings.damping settings.tolerance flag start; damping = false; rounds = false; lengths = length_wrong flag (length start) g.nodes; start = z })))
-      (ed ∙ ap (start_wrong flag g.nodes) es)
+      → let own : Own = record { number = b; damping = false; rounds = false; lengths = c; start = d } in
+      x ≡ refused_if (first_refusal (own_tests g.nodes g.from g.to g.weight false own (ltb (length g.results) g.nodes) l.narrow l.wide l.floats))
+      → x ≡ refused_if (first_refusal (pagerank_tests settings flag start g))
+  answered z eb ec ed es e = rw (eb, ec, ed, es) at (checked g false _ z e)
 
   module _ (p : Passed (pagerank_tests settings flag start g)) where
     pub ready : Ready g

@@ -1,21 +1,23 @@
 -- The rounds of `pagerank`: what a node does and adds to the dangling sum, the move of the next vector, and a round as it is defined. Assumes nothing.
-use Rattle.std.proofs.Common.{◌≡◌, ℕ, zero, suc, ◌+◌, ◌*◌, ◌<◌, ◌≤◌, Bool, true, false, List, length, get_or, set, sym, refl, ap, ◌∙◌, ⊎_elim, true≢false, zero-add, arith}
+use Rattle.std.proofs.Common.{◌≡◌, ℕ, zero, suc, ◌+◌, ◌*◌, ◌<◌, ◌≤◌, Bool, true, false, ◌&&◌, List, [], ◌∷◌, length, get_or, set, sym, refl, ap, ◌∙◌, true≢false, zero-add, arith}
 use mathlib.Core.List.{foldl}
-use lib.Ieee.{Float, nan, binary64, add, sub, mul, div, lt, eq}
+use borrow.Author.Tests.{not-true}
+use Rattle.std.specs.List.{list_all}
+use lib.Ieee.{Float, nan, binary64, of_bits, add, sub, mul, div, lt, eq, ne}
 use Rattle.regions.specs.Doubles.{double, one}
 use Rattle.regions.specs.Region.{zero_f, list_of, Front, Filled, Copied}
-use Rattle.regions.proofs.Cases.{same_or_not}
 use Rattle.regions.proofs.Frames.{frame_front, frame_part, filled_part, copied_none, copied_more}
 use Rattle.rounds.specs.Rounds.{after, round}
 use Rattle.rounds.specs.Vectors.{entry, current_in, next_in, Vectors}
 use Rattle.rounds.proofs.Vectors.{vectors_then, vectors_are, current_at, next_at_lem}
 use Rattle.links.specs.Links.{Links, links_in, shares_in, outs_in, gives, settles, with_change, absolute_change}
-use Rattle.links.specs.Steps.{LinksPre, Advanced, RoundDone}
+use Rattle.rounds.specs.Steps.{RoundDone}
+use Rattle.links.specs.Steps.{LinksPre, Advanced}
 use Rattle.links.proofs.Turns.{vectors_none, links_kept, out_at, distributed, outs_kept}
 use Rattle.links.proofs.Rounds.{pre_kept, advanced_round}
 use Rattle.pagerank.specs.PageRank.{dangling_sum, pagerank_base, pagerank_node, pagerank_next, pagerank_step, dangles, with_dangling}
 use Rattle.roots.specs.Absolute.{abs_of}
-use Rattle.regions.proofs.Parts.{part_is, part_list}
+use Rattle.regions.proofs.Parts.{part_long, part_is, part_list}
 use Rattle.rounds.proofs.Rounds.{after_none, after_more}
 use Rattle.pagerank.specs.Steps.{NoneDangles}
 
@@ -55,17 +57,21 @@ unfolding dangling_sum after
 none_sum outs x zero h = refl
 none_sum outs x (suc n) h = none_sum outs x n (λ i l. h i (omega arith)) ∙ dangling_no (entry outs n) (entry x n) (after (with_dangling outs x) n zero_f) (h n (omega arith))
 
--- one node more that does not dangle
-pub none_more : (n : ℕ) (wf : List Float) (i : ℕ) → i < n → eq (get_or wf (2 * n + i) nan) zero_f ≡ false → ((k : ℕ) → k < i → eq (entry (outs_in n wf) k) zero_f ≡ false)
-    → (k : ℕ) → k < i + 1 → eq (entry (outs_in n wf) k) zero_f ≡ false
-none_more n wf i l e all k h =
-    ⊎_elim
-    (λ q. ap (λ (j : ℕ). eq (entry (outs_in n wf) j) zero_f) q ∙ ap (λ (z : Float). eq z zero_f) (sym (out_at n wf i l)) ∙ e)
-    (λ q. all k (omega arith))
-    (same_or_not k i)
+and_both : (a b : Bool) → (a && b) ≡ true → (a ≡ true) × (b ≡ true)
+and_both true b e = (refl, e)
+and_both false b e = absurd (true≢false (sym e))
 
-pub none_false : (n : ℕ) (outs : List Float) → NoneDangles n false outs
-none_false n outs = record { sure = λ e. absurd (true≢false (sym e)) }
+-- no entry of a list of which all are tested is zero
+all_at : (xs : List Float) → list_all (λ x. ne x (of_bits binary64 0)) xs ≡ true → (i : ℕ) → i < length xs → eq (get_or xs i nan) zero_f ≡ false
+unfolding of_bits ne
+all_at [] e i l = absurd (omega arith)
+all_at (x ∷ xs) e zero l = not-true _ (and_both _ _ e).0
+all_at (x ∷ xs) e (suc i) l = all_at xs (and_both _ _ e).1 i (omega arith)
+
+-- all out-weights were tested
+pub all_dangle_not : (n : ℕ) (wf xs : List Float) → 4 * n ≤ length wf → xs ≡ outs_in n wf → {none : Bool} → none ≡ list_all (λ x. ne x (of_bits binary64 0)) xs → NoneDangles n none (outs_in n wf)
+all_dangle_not n wf xs room q {none} e =
+    rw (← q) (record { sure = λ t i l. all_at xs (sym e ∙ t) i (omega (arith, ap length q, part_long wf (2 * n) n (omega arith))) })
 
 -- the out-weights are as they were
 pub none_kept : (n : ℕ) (w : List ℕ) {none : Bool} {wf wf' : List Float} → 4 * n ≤ length wf → Front wf (n + n) wf' → NoneDangles n none (outs_in n wf) → NoneDangles n none (outs_in n wf')
@@ -115,6 +121,10 @@ module _ (n : ℕ) (wf₀ : List Float) (room : 4 * n ≤ length wf₀) where
       }
 
 -- ---- one round
+pub pagerank_is : (l : Links) (d tolerance : Float) (x : List Float) → pagerank_step l d tolerance x ≡ round (pagerank_next l d x) (settles tolerance l.nodes x (pagerank_next l d x))
+unfolding pagerank_step
+pagerank_is l d tolerance x = refl
+
 pub filled_vectors : (n : ℕ) {wf wf' : List Float} {b : Float} → n + n ≤ length wf → Filled wf n n b wf' → Vectors n wf (current_in n wf) (list_of (λ _. b) n) wf'
 filled_vectors n room f =
     record {
@@ -131,11 +141,11 @@ module _ (n : ℕ) (w : List ℕ) (d : Float) (wf : List Float) (pre : LinksPre 
     pub spread_pre : LinksPre n w wf1
     spread_pre = pre_kept n w pre begun.front
 
-    pub round_done : {wf2 wf3 : List Float} {change : Float} → Vectors n wf1 (current_in n wf1) (after (pagerank_node (links_in n w wf1) d (current_in n wf1)) n (next_in n wf1)) wf2 → Advanced n wf2 change wf3
-        → RoundDone n (pagerank_next (links_in n w wf) d) wf change wf3
+    pub round_done : (tolerance : Float) {wf2 wf3 : List Float} {change bound : Float} → Vectors n wf1 (current_in n wf1) (after (pagerank_node (links_in n w wf1) d (current_in n wf1)) n (next_in n wf1)) wf2 → Advanced n wf2 change wf3
+        → bound ≡ mul binary64 tolerance (double n) → RoundDone n (pagerank_step (links_in n w wf) d tolerance) wf (lt change bound) wf3
     unfolding pagerank_next
-    round_done s a =
-        advanced_round n (pagerank_next (links_in n w wf) d)
+    round_done tolerance s a =
+        advanced_round n (pagerank_next (links_in n w wf) d) (pagerank_step (links_in n w wf) d tolerance) tolerance (pagerank_is (links_in n w wf) d tolerance)
         (vectors_then begun
         (vectors_are begun.current
         (ap (λ (l : Links). after (pagerank_node l d (current_in n wf1)) n (next_in n wf1)) (links_kept n w pre.room begun.front)
@@ -150,16 +160,21 @@ pub base_is : (n : ℕ) (d dangling : Float) {q : Float} → q ≡ double n → 
 unfolding pagerank_base
 base_is n d dangling e = rw e
 
--- a round reads the same links as the first
-module _ (n : ℕ) (w : List ℕ) (d : Float) {wf₀ wf : List Float} (pre : LinksPre n w wf₀) (front : Front wf₀ (n + n) wf) where
-  pub round_kept : {change : Float} {wf' : List Float} → RoundDone n (pagerank_next (links_in n w wf) d) wf change wf' → RoundDone n (pagerank_next (links_in n w wf₀) d) wf change wf'
-  round_kept r =
-      record {
-        front = r.front;
-        current = r.current ∙ ap (λ (l : Links). pagerank_next l d (current_in n wf)) (links_kept n w pre.room front);
-        changed = r.changed;
-      }
+-- ---- rounds
+-- what a round asks of the floats, and that it reads the links that the first one read
+pub record Ready (n : ℕ) (none : Bool) (w : List ℕ) (wf₀ wf : List Float) : Type 0 where
+  pub pre : LinksPre n w wf
+  pub dangles_none : NoneDangles n none (outs_in n wf)
+  pub links_same : links_in n w wf ≡ links_in n w wf₀
 
-pub pagerank_is : (l : Links) (d tolerance : Float) (x : List Float) → pagerank_step l d tolerance x ≡ round (pagerank_next l d x) (settles tolerance l.nodes x (pagerank_next l d x))
-unfolding pagerank_step
-pagerank_is l d tolerance x = refl
+-- a round keeps that
+pub ready_kept : (n : ℕ) (none : Bool) (w : List ℕ) (wf₀ : List Float) (d tolerance : Float) {wf wf' : List Float} {met : Bool} → Ready n none w wf₀ wf
+    → RoundDone n (pagerank_step (links_in n w wf) d tolerance) wf met wf' → RoundDone n (pagerank_step (links_in n w wf₀) d tolerance) wf met wf' × Ready n none w wf₀ wf'
+ready_kept n none w wf₀ d tolerance {wf} {wf'} {met} s r = (
+  rw s.links_same at r,
+  record {
+    pre = pre_kept n w s.pre r.front;
+    dangles_none = none_kept n w s.pre.room r.front s.dangles_none;
+    links_same = links_kept n w s.pre.room r.front ∙ s.links_same;
+  },
+)

@@ -5,11 +5,12 @@ use lib.Ieee.{Float, nan, binary64, of_bits, round as nearest, lt}
 use lib.Ieee.Scale.{finite}
 use Rattle.regions.specs.Region.{zero_f, list_of}
 use Rattle.regions.proofs.Fronts.{list_long}
+use Rattle.std.specs.Prelude.{Result}
 use Rattle.answers.specs.declared.Settings.{Settings}
 use Rattle.answers.specs.declared.Rounds.{Rounds}
-use Rattle.answers.specs.Answers.{done, said_ended}
-use Rattle.answers.specs.declared.Ended.{Ended}
-use Rattle.answers.proofs.Said.{ended_returned}
+use Rattle.answers.specs.Answers.{done, said_by}
+use Rattle.answers.specs.declared.Refusal.{Refusal}
+use Rattle.answers.proofs.Said.{returned}
 use Rattle.graph.specs.Given.{Given, graph_in}
 use Rattle.graph.specs.Refusals.{first_refusal}
 use Rattle.graph.specs.Left.{left}
@@ -22,11 +23,11 @@ use Rattle.links.specs.Links.{Links, links_of, distributes, divided}
 use Rattle.links.proofs.Settled.{distributes_long, after_long, divided_long, rounds_finite, scores_finite}
 use Rattle.pagerank.specs.PageRank.{dangling_sum, pagerank_base, pagerank_node, pagerank_next, pagerank_step, pagerank_rounds, tiny, pagerank_tests, pagerank_outcome}
 
-pub pagerank_unique : (settings : Settings) (flag : Bool) (start : List Float) (g : Given (List Float)) {r r' : Ended} {s s' : List Float} {x x' y y' : List ℕ} {z z' : List Float}
-    → left (said_ended r) s x y z ≡ pagerank_outcome settings flag start g → left (said_ended r') s' x' y' z' ≡ pagerank_outcome settings flag start g → (r ≡ r') × (s ≡ s') × (x ≡ x') × (y ≡ y') × (z ≡ z')
+pub pagerank_unique : (settings : Settings) (flag : Bool) (start : List Float) (g : Given (List Float)) {r r' : Result Rounds Refusal} {s s' : List Float} {x x' y y' : List ℕ} {z z' : List Float}
+    → left (said_by r) s x y z ≡ pagerank_outcome settings flag start g → left (said_by r') s' x' y' z' ≡ pagerank_outcome settings flag start g → (r ≡ r') × (s ≡ s') × (x ≡ x') × (y ≡ y') × (z ≡ z')
 pagerank_unique settings flag start g {r} {r'} p q =
     let same = no_second p q in
-    (ended_returned r r' same.0, same.1, same.2, same.3, same.4)
+    (returned r r' same.0, same.1, same.2, same.3, same.4)
 
 -- the sum below which a start is refused is the double nearest to 1e-9
 pub tiny_nearest : tiny ≡ nearest binary64 false 1 1000000000

@@ -1,5 +1,5 @@
 -- The workspace before the first start with pairs: what `prepare` leaves, then each row entry's pair beside it, and every total +0.0. Assumes nothing.
-use mathlib.Core.Path.{◌≡◌, sym, ap, ◌∙◌}
+use mathlib.Core.Path.{◌≡◌, sym, ap, ◌∙◌, subst}
 use mathlib.Core.Bool.{Bool}
 use mathlib.Core.List.{List}
 use Prim.Native.Nat.{ℕ, ◌+◌, ◌*◌, ◌≤◌, ◌<◌}
@@ -15,7 +15,8 @@ use Rattle.graph.specs.Layout.{beside_at, distances_at, queue_at, incoming_at, t
 use Rattle.hops.specs.Search.{graph_of, RowsOf, Space}
 use Rattle.hops.proofs.Search.{rows_after}
 use Rattle.predecessors.proofs.Holding.{slots_after}
-use Rattle.pairs.specs.Numbers.{first_at, NumberPre, NumberPost}
+use Rattle.pairs.specs.declared.Table.{Table}
+use Rattle.pairs.specs.Numbers.{first_at, table_at, NumberPre, NumberPost}
 use Rattle.starts.specs.Starts.{Still, PreparePre, Prepared}
 use Rattle.starts.proofs.Following.{within_then}
 use Rattle.crossings.specs.Totals.{totals_after}
@@ -23,16 +24,17 @@ use Rattle.pair_starts.specs.Starts.{StillPairs, TotalsHeld, PreparedPairs}
 use Rattle.pair_starts.proofs.Numbering.{rows_low, number_low}
 
 module _ {n : ℕ} {directed : Bool} {from to : List ℕ} {weight : List Float} {w c : List ℕ} {f : List Float} (P : PreparePre n from to weight w c f)
-    {w1 c1 : List ℕ} {f1 : List Float} (A : Prepared n directed from to weight w c f w1 c1 f1) where
+    {w1 c1 : List ℕ} {f1 : List Float} (A : Prepared n directed from to weight w c f w1 c1 f1) {tb : Table} (is : tb ≡ table_at n (length from)) where
   space : Space (graph_of n directed (edges_of from to weight)) 0 w1 c1 (distances_at n (length from)) (queue_at n (length from))
   space = A.still.space 0 P.some
 
   rows : RowsOf (graph_of n directed (edges_of from to weight)) w1 (beside_at n (length from))
   rows = rows_low (length from) space.rows A.most
 
-  pub number_pre : NumberPre n (beside_at n (length from)) (queue_at n (length from)) w1
+  pub number_pre : NumberPre n tb.beside tb.marks w1
   number_pre =
-      record {
+      subst (λ (t : Table). NumberPre n t.beside t.marks w1) (sym is)
+      (record {
         directed = directed;
         edges = edges_of from to weight;
         valid = space.valid;
@@ -40,12 +42,15 @@ module _ {n : ℕ} {directed : Bool} {from to : List ℕ} {weight : List Float} 
         apart = omega (arith, A.most);
         room = space.room;
         few = omega (arith, A.most, P.sound.limits.edges);
-      }
+      })
 
-  pub totals_room : totals_at n + 2 * length from ≤ length f1
-  totals_room = omega (arith, A.within.floats.long, P.roomy.rf)
+  module _ {w2 : List ℕ} (numbers : NumberPost n tb.beside tb.marks w1 w2) {f2 : List Float} (zeros : Filled f1 tb.totals (2 * length from) zero_f f2) where
+    N : NumberPost n (beside_at n (length from)) (queue_at n (length from)) w1 w2
+    N = subst (λ (t : Table). NumberPost n t.beside t.marks w1 w2) is numbers
 
-  module _ {w2 : List ℕ} (N : NumberPost n (beside_at n (length from)) (queue_at n (length from)) w1 w2) {f2 : List Float} (Z : Filled f1 (totals_at n) (2 * length from) zero_f f2) where
+    Z : Filled f1 (totals_at n) (2 * length from) zero_f f2
+    Z = subst (λ (t : Table). Filled f1 t.totals (2 * length from) zero_f f2) is zeros
+
     -- the rows, the distances and all behind the queue are as they were
     low : (i : ℕ) → i < beside_at n (length from) → get_or w2 i 0 ≡ get_or w1 i 0
     low i l = N.frame.rest 0 i (λ p q. omega arith) (λ p q. omega arith)

@@ -1,6 +1,6 @@
 -- What the steps of one start with pairs ask, and what they leave together; start after start. Assumes nothing.
-use mathlib.Core.Path.{◌≡◌, sym, ap, ◌∙◌, subst}
-use mathlib.Core.Bool.{Bool, true, false, false≢true}
+use mathlib.Core.Path.{◌≡◌, refl, sym, ap, ◌∙◌, subst}
+use mathlib.Core.Bool.{Bool, false, false≢true}
 use mathlib.Core.List.{List, foldr}
 use Prim.Native.Nat.{ℕ, ◌+◌, ◌<◌}
 use native.Mathlib.Numerals.{add-one}
@@ -8,79 +8,93 @@ use lib.Ieee.{Float}
 use Rattle.regions.specs.Region.{part, Front}
 use Rattle.graph.specs.Edges.{Edge, Graph}
 use Rattle.graph.specs.Fronts.{usual_fronts}
-use Rattle.graph.specs.Layout.{beside_at, distances_at, queue_at, incoming_at, filled_at, predecessor_pairs_at, predecessors_at, totals_at}
-use Rattle.hops.specs.declared.Reached.{Reached}
-use Rattle.hops.specs.declared.Reached.TheVariants.{Nodes, Paths}
+use Rattle.graph.specs.Layout.{distances_at, queue_at, totals_at}
+use Rattle.std.specs.Prelude.{Result, Ok, Err}
+use Rattle.hops.specs.declared.TooManyPaths.{TooManyPaths}
+use Rattle.hops.proofs.Forgetting.{forget_pre}
 use Rattle.hops.specs.Hops.{path_limit}
 use Rattle.hops.specs.Search.{graph_of, ForgetPre, Forgotten}
 use Rattle.predecessors.specs.Order.{predecessors}
 use Rattle.brandes.specs.Steps.{held_predecessors, ReleasePre, Released}
 use Rattle.predecessors.specs.Tracks.{Traced}
 use Rattle.pairs.specs.Numbers.{number_in}
-use Rattle.pair_search.specs.Pairs.{HeldPairs, EndedPairs, SearchPairsPre, SearchPairsPost}
-use Rattle.crossings.specs.Crossings.{left_across, AcrossPre}
+use Rattle.pair_search.specs.declared.PairTracks.{PairTracks}
+use Rattle.pair_search.specs.Pairs.{HeldPairs, SearchPairsPre, SearchPairsPost}
+use Rattle.crossings.specs.Crossings.{held_pairs, left_across, AcrossPre}
 use Rattle.brandes.specs.Shares.{some_exceeds}
-use Rattle.starts.specs.Starts.{StartPre}
-use Rattle.starts.proofs.Starting.{not_many, release_pre, within_next}
+use Rattle.starts.specs.Starts.{tracks_at, stopped, StartPre}
+use Rattle.starts.proofs.Starting.{not_many, release_pre, within_next, within_paths, many}
 use Rattle.starts.proofs.Following.{within_then, Adds, Added, added_more, added_paths}
-use Rattle.starts.proofs.Adding.{search_pre, start_paths, traced, start_forget}
+use Rattle.starts.proofs.Adding.{search_pre}
 use Rattle.crossings.specs.Totals.{totals_from, totals_after}
-use Rattle.pair_starts.specs.Starts.{StillPairs, TotalsHeld, CrossPre, CrossPost, CrossAllPre, CrossAllPost}
+use Rattle.pair_starts.specs.Starts.{paired_at, StillPairs, TotalsHeld, CrossPre, CrossPost, CrossAllPre, CrossAllPost}
 use Rattle.pair_starts.proofs.Crossing.{paired, pairs_next, totals_next, across_asks, total_front, total_kept, totalled}
 
 -- a start with pairs is a start
 plain : {n m s : ℕ} {w c : List ℕ} {f : List Float} → CrossPre n m s w c f → StartPre n m s w c f
 plain P = record { directed = P.directed; edges = P.edges; still = P.still.still; limits = P.limits; start = P.start }
 
-pub cross_search : {n m s : ℕ} {w c : List ℕ} {f : List Float} → CrossPre n m s w c f
-    → SearchPairsPre n s path_limit (distances_at n m) (queue_at n m) (beside_at n m) (incoming_at n m) (filled_at n m) (predecessor_pairs_at n m) (predecessors_at n m) w c
-cross_search P = record { search = search_pre (plain P); paired = paired P.still P.start }
+module _ {n m s : ℕ} {w c : List ℕ} {f : List Float} (pre : CrossPre n m s w c f) {pt : PairTracks} (is : pt ≡ paired_at n m) where
+  pub cross_search : SearchPairsPre pt s w c
+  cross_search = subst (λ (t : PairTracks). SearchPairsPre t s w c) (sym is) (record { search = search_pre (plain pre); paired = paired pre.still pre.start })
 
-module _ {n m s : ℕ} {w c : List ℕ} {f : List Float} (pre : CrossPre n m s w c f) {w1 c1 : List ℕ} {r : Reached}
-    (P : SearchPairsPost n s path_limit (distances_at n m) (queue_at n m) (beside_at n m) (incoming_at n m) (filled_at n m) (predecessor_pairs_at n m) (predecessors_at n m) w c w1 c1 r) where
-  -- a path count is above the limit
-  pub cross_paths : r ≡ Paths → CrossPost n m s w c f w1 c1 f true
-  cross_paths e =
-      let A = start_paths (plain pre) P.search e in
-      record {
-        within = A.within;
-        still = λ q. absurd (false≢true (sym q));
-        totals = λ q. absurd (false≢true (sym q));
-        paths = λ directed es S. A.paths directed es S.still;
-      }
+  module _ {w1 c1 : List ℕ} where
+    -- what the search leaves in the places of the layout
+    module _ {r : Result ℕ TooManyPaths} (Q : SearchPairsPost pt s w c w1 c1 r) where
+      found : SearchPairsPost (paired_at n m) s w c w1 c1 r
+      found = subst (λ (t : PairTracks). SearchPairsPost t s w c w1 c1 r) is Q
 
-  module _ {tail : ℕ} (e : r ≡ Nodes tail) where
-    over : (directed : Bool) (es : List Edge) → StillPairs (graph_of n directed es) m w c f → Traced (graph_of n directed es) path_limit s w1 c1 (distances_at n m) (queue_at n m) (incoming_at n m) (filled_at n m) (predecessors_at n m) tail
-    over directed es S = traced (plain pre) P.search e directed es S.still
+    -- a path count is above the limit
+    pub cross_paths : {e : TooManyPaths} → SearchPairsPost pt s w c w1 c1 (Err e) → (e' : TooManyPaths) → CrossPost n m s w c f w1 c1 f (Err e')
+    cross_paths Q e' =
+        let P = found Q in
+        record {
+          within = within_paths pre.still.still P.search.stays;
+          still = λ q. absurd (false≢true (sym q));
+          totals = λ q. absurd (false≢true (sym q));
+          paths = λ directed es S. many (P.search.ended directed es (S.still.space s pre.start) S.still.slots);
+        }
 
-    held : (directed : Bool) (es : List Edge) → StillPairs (graph_of n directed es) m w c f → HeldPairs n (number_in w (graph_of n directed es)) w1 (incoming_at n m) (predecessor_pairs_at n m) (predecessors (graph_of n directed es) s)
-    held directed es S =
-        subst (EndedPairs (graph_of n directed es) (number_in w (graph_of n directed es)) s (incoming_at n m) (predecessor_pairs_at n m) w1) e
-        (P.held directed es (number_in w (graph_of n directed es)) (S.still.space s pre.start) S.still.slots S.numbered)
+    module _ {tail : ℕ} (Q : SearchPairsPost pt s w c w1 c1 (Ok tail)) where
+      abbrev P : SearchPairsPost (paired_at n m) s w c w1 c1 (Ok tail)
+      P = found Q
 
-    pub cross_accumulate : AcrossPre n (totals_at n) (queue_at n m) (incoming_at n m) (filled_at n m) (predecessor_pairs_at n m) (predecessors_at n m) tail w1 c1 f
-    cross_accumulate = across_asks pre.still pre.start (over pre.directed pre.edges pre.still) (held pre.directed pre.edges pre.still)
+      over : (directed : Bool) (es : List Edge) → StillPairs (graph_of n directed es) m w c f → Traced (graph_of n directed es) (tracks_at n m) s w1 c1 tail
+      over directed es S = P.search.ended directed es (S.still.space s pre.start) S.still.slots
 
-    pub cross_forget : ForgetPre tail (distances_at n m) (queue_at n m) w1 c1
-    cross_forget = start_forget (plain pre) P.search e
+      held : (directed : Bool) (es : List Edge) → StillPairs (graph_of n directed es) m w c f → HeldPairs n (paired_at n m) (number_in w (graph_of n directed es)) w1 (predecessors (graph_of n directed es) s)
+      held directed es S = P.held directed es (number_in w (graph_of n directed es)) (S.still.space s pre.start) S.still.slots S.numbered
 
-    module _ (f1 : List Float)
-        (acc : f1 ≡ foldr (left_across n (totals_at n) c1 (held_predecessors (incoming_at n m) (filled_at n m) (predecessors_at n m) w1) (held_predecessors (incoming_at n m) (filled_at n m) (predecessor_pairs_at n m) w1)) f (part w1 (queue_at n m) tail))
-        {w2 c2 : List ℕ} (X : Forgotten tail (distances_at n m) (queue_at n m) w1 c1 w2 c2) where
-      front : Front f (usual_fronts n m).floats f1
-      front = total_front pre.still pre.start (over pre.directed pre.edges pre.still) (held pre.directed pre.edges pre.still) f1 acc
+      pub cross_accumulate : AcrossPre pt tail w1 c1 f
+      cross_accumulate = subst (λ (t : PairTracks). AcrossPre t tail w1 c1 f) (sym is) (across_asks pre.still pre.start (over pre.directed pre.edges pre.still) (held pre.directed pre.edges pre.still))
 
-      pub cross_release : ReleasePre n tail (queue_at n m) (incoming_at n m) (filled_at n m) w2 f1
-      cross_release = release_pre pre.still.still P.search.stays (over pre.directed pre.edges pre.still) f1 front X
+      pub cross_forget : ForgetPre tail pt.tracks.places.distances pt.tracks.places.queue w1 c1
+      cross_forget = subst (λ (t : PairTracks). ForgetPre tail t.tracks.places.distances t.tracks.places.queue w1 c1) (sym is) (forget_pre (over pre.directed pre.edges pre.still).found)
 
-      pub cross_done : {w3 : List ℕ} {f2 : List Float} → Released n tail (queue_at n m) (incoming_at n m) (filled_at n m) w2 f1 w3 f2 → CrossPost n m s w c f w3 c2 f2 false
-      cross_done Y =
-          record {
-            within = within_next pre.still.still P.search.stays (over pre.directed pre.edges pre.still) f1 front X Y;
-            still = λ q directed es S. pairs_next S pre.start P.search.stays (over directed es S) f1 front X Y (total_kept S pre.start (over directed es S) (held directed es S) f1 acc);
-            totals = λ q directed es S total T. totals_next S pre.start P.search.stays (over directed es S) f1 front X Y (totalled S pre.start (over directed es S) (held directed es S) f1 acc T);
-            paths = λ directed es S. not_many S.still P.search.stays (over directed es S);
-          }
+      module _ (f1 : List Float)
+          (sums : f1 ≡ foldr (left_across pt.tracks.places.nodes pt.table.totals c1 (held_predecessors pt.tracks w1) (held_pairs pt w1)) f (part w1 pt.tracks.places.queue tail))
+          {w2 c2 : List ℕ} (forgot : Forgotten tail pt.tracks.places.distances pt.tracks.places.queue w1 c1 w2 c2) where
+        acc : f1 ≡ foldr (left_across n (totals_at n) c1 (held_predecessors (tracks_at n m) w1) (held_pairs (paired_at n m) w1)) f (part w1 (queue_at n m) tail)
+        acc = subst (λ (t : PairTracks). f1 ≡ foldr (left_across t.tracks.places.nodes t.table.totals c1 (held_predecessors t.tracks w1) (held_pairs t w1)) f (part w1 t.tracks.places.queue tail)) is sums
+
+        X : Forgotten tail (distances_at n m) (queue_at n m) w1 c1 w2 c2
+        X = subst (λ (t : PairTracks). Forgotten tail t.tracks.places.distances t.tracks.places.queue w1 c1 w2 c2) is forgot
+
+        front : Front f (usual_fronts n m).floats f1
+        front = total_front pre.still pre.start (over pre.directed pre.edges pre.still) (held pre.directed pre.edges pre.still) f1 acc
+
+        pub cross_release : ReleasePre pt.tracks tail w2 f1
+        cross_release = subst (λ (t : PairTracks). ReleasePre t.tracks tail w2 f1) (sym is) (release_pre pre.still.still P.search.stays (over pre.directed pre.edges pre.still) f1 front X)
+
+        pub cross_done : {w3 : List ℕ} {f2 : List Float} → Released pt.tracks tail w2 f1 w3 f2 → CrossPost n m s w c f w3 c2 f2 (Ok tt)
+        cross_done {w3} {f2} released =
+            let Y : Released (tracks_at n m) tail w2 f1 w3 f2 = subst (λ (t : PairTracks). Released t.tracks tail w2 f1 w3 f2) is released in
+            record {
+              within = within_next pre.still.still P.search.stays (over pre.directed pre.edges pre.still) f1 front X Y;
+              still = λ q directed es S. pairs_next S pre.start P.search.stays (over directed es S) f1 front X Y (total_kept S pre.start (over directed es S) (held directed es S) f1 acc);
+              totals = λ q directed es S total T. totals_next S pre.start P.search.stays (over directed es S) f1 front X Y (totalled S pre.start (over directed es S) (held directed es S) f1 acc T);
+              paths = λ directed es S. not_many S.still P.search.stays (over directed es S);
+            }
 
 -- ---- start after start
 
@@ -96,23 +110,23 @@ module _ {n m : ℕ} {w₀ c₀ : List ℕ} {f₀ : List Float} (pre : CrossAllP
   pub all_pre : CrossPre n m k w c f
   all_pre = record { directed = pre.directed; edges = pre.edges; still = A.still pre.directed pre.edges pre.still; limits = pre.limits; start = l }
 
-  module _ {w' c' : List ℕ} {f' : List Float} {r : Bool} (P : CrossPost n m k w c f w' c' f' r) where
-    one : Adds (λ g. StillPairs g m) (λ g i w f. TotalsHeld g w f (totals_after g i)) n m k w c f w' c' f' r
+  module _ {w' c' : List ℕ} {f' : List Float} {r : Result (Unit {0}) TooManyPaths} (P : CrossPost n m k w c f w' c' f' r) where
+    one : Adds (λ g. StillPairs g m) (λ g i w f. TotalsHeld g w f (totals_after g i)) n m k w c f w' c' f' (stopped r)
     one = record { within = P.within; still = P.still; adds = λ e d es S T. totals_more k (P.totals e d es S (totals_after (graph_of n d es) k) T); paths = P.paths }
 
-    pub all_more : r ≡ false → AddedTotals n m w₀ c₀ f₀ (k + 1) w' c' f'
-    all_more e = added_more A l one e
+  pub all_more : {w' c' : List ℕ} {f' : List Float} {v : Unit {0}} → CrossPost n m k w c f w' c' f' (Ok v) → AddedTotals n m w₀ c₀ f₀ (k + 1) w' c' f'
+  all_more P = added_more A l (one P) refl
 
-    pub all_paths : r ≡ true → CrossAllPost n m w₀ c₀ f₀ w' c' f' true
-    all_paths e =
-        record {
-          within = within_then A.within P.within;
-          still = λ q. absurd (false≢true (sym q));
-          totals = λ q. absurd (false≢true (sym q));
-          paths = added_paths A l one e;
-        }
+  pub all_paths : {w' c' : List ℕ} {f' : List Float} {e : TooManyPaths} → CrossPost n m k w c f w' c' f' (Err e) → (e' : TooManyPaths) → CrossAllPost n m w₀ c₀ f₀ w' c' f' (Err e')
+  all_paths P e' =
+      record {
+        within = within_then A.within P.within;
+        still = λ q. absurd (false≢true (sym q));
+        totals = λ q. absurd (false≢true (sym q));
+        paths = added_paths A l (one P) refl;
+      }
 
-pub all_done : {n m : ℕ} {w₀ c₀ : List ℕ} {f₀ : List Float} {k : ℕ} {w c : List ℕ} {f : List Float} → AddedTotals n m w₀ c₀ f₀ k w c f → k ≡ n → CrossAllPost n m w₀ c₀ f₀ w c f false
+pub all_done : {n m : ℕ} {w₀ c₀ : List ℕ} {f₀ : List Float} {k : ℕ} {w c : List ℕ} {f : List Float} → AddedTotals n m w₀ c₀ f₀ k w c f → k ≡ n → CrossAllPost n m w₀ c₀ f₀ w c f (Ok tt)
 all_done {n} {m} {w₀} {c₀} {f₀} {k} {w} {c} {f} A e =
     record {
       within = A.within;

@@ -1,17 +1,23 @@
 -- Edge betweenness: what holds in the workspace between two starts, and what the steps ask and leave. Definitions only.
-use Rattle.std.specs.Prelude.{◌≡◌, Bool, false, ℕ, ◌+◌, ◌*◌, ◌≤◌, ◌<◌, length, get_or, Float}
+use Rattle.std.specs.Prelude.{◌≡◌, Bool, false, Result, ℕ, ◌+◌, ◌*◌, ◌≤◌, ◌<◌, length, get_or, Float}
 use mathlib.Core.List.{List, Memᴰ}
 use Rattle.std.specs.Float.{nan}
 use Rattle.graph.specs.Edges.{Edge, Graph, entries, edges_of}
 use Rattle.graph.specs.Fronts.{usual_fronts}
 use Rattle.graph.specs.Pres.{Limits}
-use Rattle.graph.specs.Layout.{beside_at, totals_at}
+use Rattle.graph.specs.Layout.{beside_at, predecessor_pairs_at, totals_at}
+use Rattle.hops.specs.declared.TooManyPaths.{TooManyPaths}
 use Rattle.hops.specs.Hops.{exceeds, path_limit}
 use Rattle.hops.specs.Search.{graph_of}
-use Rattle.pairs.specs.Numbers.{number_in, Numbered}
+use Rattle.pairs.specs.Numbers.{number_in, Numbered, table_at}
+use Rattle.pair_search.specs.declared.PairTracks.{PairTracks}
 use Rattle.brandes.specs.Shares.{some_exceeds}
-use Rattle.starts.specs.Starts.{Within, Still}
+use Rattle.starts.specs.Starts.{Within, Still, tracks_at, stopped}
 use Rattle.crossings.specs.Totals.{totals_from, totals_after}
+
+-- where a start keeps what it finds, in the workspace of a graph of n nodes and m edges
+abbrev pub paired_at : ℕ → ℕ → PairTracks
+paired_at n m = record { tracks = tracks_at n m; table = table_at n m; pairs = predecessor_pairs_at n m }
 
 -- the workspace between two starts, with the number of each row entry's pair beside it and room for the totals
 pub record StillPairs (g : Graph) (m : ℕ) (w c : List ℕ) (f : List Float) : Type 0 where
@@ -36,12 +42,12 @@ pub record CrossPre (n m s : ℕ) (w c : List ℕ) (f : List Float) : Type 0 whe
   pub start : s < n
 
 -- what a start leaves, of every graph whose rows stand in w: its shares added to the totals, or some path count above the limit
-pub record CrossPost (n m s : ℕ) (w c : List ℕ) (f : List Float) (w' c' : List ℕ) (f' : List Float) (r : Bool) : Type 0 where
+pub record CrossPost (n m s : ℕ) (w c : List ℕ) (f : List Float) (w' c' : List ℕ) (f' : List Float) (r : Result (Unit {0}) TooManyPaths) : Type 0 where
   pub within : Within n m w c f w' c' f'
-  pub still : r ≡ false → (directed : Bool) (es : List Edge) → StillPairs (graph_of n directed es) m w c f → StillPairs (graph_of n directed es) m w' c' f'
-  pub totals : r ≡ false → (directed : Bool) (es : List Edge) → StillPairs (graph_of n directed es) m w c f → (total : ℕ → ℕ → Float) → TotalsHeld (graph_of n directed es) w f total
+  pub still : stopped r ≡ false → (directed : Bool) (es : List Edge) → StillPairs (graph_of n directed es) m w c f → StillPairs (graph_of n directed es) m w' c' f'
+  pub totals : stopped r ≡ false → (directed : Bool) (es : List Edge) → StillPairs (graph_of n directed es) m w c f → (total : ℕ → ℕ → Float) → TotalsHeld (graph_of n directed es) w f total
       → TotalsHeld (graph_of n directed es) w' f' (totals_from (graph_of n directed es) s total).total
-  pub paths : (directed : Bool) (es : List Edge) → StillPairs (graph_of n directed es) m w c f → exceeds path_limit (graph_of n directed es) s ≡ r
+  pub paths : (directed : Bool) (es : List Edge) → StillPairs (graph_of n directed es) m w c f → exceeds path_limit (graph_of n directed es) s ≡ stopped r
 
 -- what all starts ask: there is a graph whose rows stand in w, between two starts
 pub record CrossAllPre (n m : ℕ) (w c : List ℕ) (f : List Float) : Type 0 where
@@ -51,12 +57,12 @@ pub record CrossAllPre (n m : ℕ) (w c : List ℕ) (f : List Float) : Type 0 wh
   pub limits : Limits n m
 
 -- what they leave, of every graph whose rows stand in w: the totals after the last start, or some path count above the limit
-pub record CrossAllPost (n m : ℕ) (w c : List ℕ) (f : List Float) (w' c' : List ℕ) (f' : List Float) (r : Bool) : Type 0 where
+pub record CrossAllPost (n m : ℕ) (w c : List ℕ) (f : List Float) (w' c' : List ℕ) (f' : List Float) (r : Result (Unit {0}) TooManyPaths) : Type 0 where
   pub within : Within n m w c f w' c' f'
-  pub still : r ≡ false → (directed : Bool) (es : List Edge) → StillPairs (graph_of n directed es) m w c f → StillPairs (graph_of n directed es) m w' c' f'
-  pub totals : r ≡ false → (directed : Bool) (es : List Edge) → StillPairs (graph_of n directed es) m w c f → TotalsHeld (graph_of n directed es) w f (totals_after (graph_of n directed es) 0)
+  pub still : stopped r ≡ false → (directed : Bool) (es : List Edge) → StillPairs (graph_of n directed es) m w c f → StillPairs (graph_of n directed es) m w' c' f'
+  pub totals : stopped r ≡ false → (directed : Bool) (es : List Edge) → StillPairs (graph_of n directed es) m w c f → TotalsHeld (graph_of n directed es) w f (totals_after (graph_of n directed es) 0)
       → TotalsHeld (graph_of n directed es) w' f' (totals_after (graph_of n directed es) n)
-  pub paths : (directed : Bool) (es : List Edge) → StillPairs (graph_of n directed es) m w c f → some_exceeds path_limit (graph_of n directed es) n ≡ r
+  pub paths : (directed : Bool) (es : List Edge) → StillPairs (graph_of n directed es) m w c f → some_exceeds path_limit (graph_of n directed es) n ≡ stopped r
 
 -- ---- the beginning
 

@@ -49,35 +49,12 @@ row_none {n} {a} {e} {beside} {marks} {w} P =
       numbered = λ j lo hi. absurd (omega arith);
     }
 
-pub row_done : {n a e beside marks : ℕ} {w₀ w : List ℕ} → RowSeen n a e beside marks w₀ w → RowNumbered n a e beside marks w₀ w
-row_done S = record { frame = S.frame; marked = S.low; early = S.early; numbered = S.numbered }
-
--- what a turn reads and writes lies in the slice
-pub record RowTurn (n e p beside marks : ℕ) (w : List ℕ) : Type 0 where
-  pub entry : n + 1 + p < length w
-  pub node : get_or w (n + 1 + p) 0 < n
-  pub mark : marks + n ≤ length w
-  pub slot : beside + p < length w
-  pub more : p < e
-  pub few : e < 4294967295
-
 module _ {n a e p beside marks : ℕ} {w₀ w : List ℕ} (P : RowPre n a e beside marks w₀) (lo : a ≤ p) (hi : p < e) (S : RowSeen n a p beside marks w₀ w) where
   entry_kept : get_or w (n + 1 + p) 0 ≡ get_or w₀ (n + 1 + p) 0
   entry_kept = S.frame.rest 0 (n + 1 + p) (λ x y. omega (arith, P.inside)) (λ x y. omega (arith, P.inside, P.apart))
 
   row_node : get_or w (n + 1 + p) 0 < n
   row_node = omega (arith, entry_kept, P.nodes p lo hi)
-
-  pub row_turn : RowTurn n e p beside marks w
-  row_turn =
-      record {
-        entry = omega (arith, P.inside, P.apart, P.room, S.frame.long);
-        node = row_node;
-        mark = omega (arith, P.room, S.frame.long);
-        slot = omega (arith, P.inside, P.apart, P.room, S.frame.long);
-        more = hi;
-        few = P.few;
-      }
 
   -- the place that the mark tells
   module _ (f : ℕ) (is : f ≡ cond (ltb a (get_or w (marks + get_or w (n + 1 + p) 0) 0)) (get_or w (marks + get_or w (n + 1 + p) 0) 0 - 1) p) where
@@ -87,7 +64,7 @@ module _ {n a e p beside marks : ℕ} {w₀ w : List ℕ} (P : RowPre n a e besi
     abbrev mark : ℕ
     mark = get_or w (marks + get_or w (n + 1 + p) 0) 0
 
-    pub place_low : f ≤ p
+    place_low : f ≤ p
     place_low =
         ⊎_elim
         (λ e. let q : f ≡ mark - 1 = is ∙ ap (λ (t : Bool). cond t (mark - 1) p) e in omega (arith, S.low (get_or w (n + 1 + p) 0) row_node))
@@ -173,15 +150,6 @@ pub record RowsSeen (n v beside marks : ℕ) (w₀ w : List ℕ) : Type 0 where
   pub low : (x : ℕ) → x < n → get_or w (marks + x) 0 ≤ get_or w₀ v 0
   pub early : (u j : ℕ) → u < v → get_or w₀ u 0 ≤ j → j < get_or w₀ (u + 1) 0 → get_or w (beside + j) 0 ≤ j
   pub numbered : (u j : ℕ) → u < v → get_or w₀ u 0 ≤ j → j < get_or w₀ (u + 1) 0 → FirstFrom n (get_or w₀ u 0) (get_or w (beside + j) 0) (get_or w₀ (n + 1 + j) 0) w₀
-
-pub rows_none : {n beside marks : ℕ} {w w₀ : List ℕ} → Filled w marks n 0 w₀ → RowsSeen n 0 beside marks w₀ w₀
-rows_none {n} {beside} {marks} {w} {w₀} F =
-    record {
-      frame = frame2_none w₀ beside (get_or w₀ n 0) marks n;
-      low = λ x h. omega (arith, F.at 0 x h);
-      early = λ u j l. absurd (omega arith);
-      numbered = λ u j l. absurd (omega arith);
-    }
 
 -- the marks lie behind the rows
 filled_same : {n marks : ℕ} {w w₀ : List ℕ} → Filled w marks n 0 w₀ → (i : ℕ) → i < marks → get_or w₀ i 0 ≡ get_or w i 0

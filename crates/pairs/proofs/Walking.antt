@@ -12,13 +12,13 @@ use lib.Ieee.{Float, nan}
 use Rattle.regions.specs.Region.{over, list_of, Frame}
 use Rattle.regions.proofs.Cases.{bool_cases}
 use Rattle.regions.proofs.Fronts.{hit, miss, hit_d, miss_d, list_long}
-use Rattle.regions.proofs.Frames.{frame_none, frame_set}
+use Rattle.regions.proofs.Frames.{frame_set}
 use Rattle.regions.proofs.Parts.{list_at_lem, over_is}
 use Rattle.hops.proofs.Sums.{eq_or_ne}
 use Rattle.graph.specs.Edges.{one_if}
 use Rattle.rows.specs.Walks.{takes}
 use Rattle.rows.proofs.Walks.{takes_not, takes_own, takes_loop}
-use Rattle.pairs.specs.Writes.{among, place_of, total_of, back_of, WalkPre, Walked, ForwardPost, BackPre, BackTotal, BackPost}
+use Rattle.pairs.specs.Writes.{among, place_of, total_of, back_of, WalkPre, Walked, ForwardPost, NextPre, NextTotal, BackPre, BackTotal, BackPost}
 use Rattle.pairs.proofs.Cursors.{among_none, among_suc, among_le}
 
 -- ---- results, from the last to the first
@@ -28,9 +28,6 @@ pub record Results (f : ℕ → Float) (m e : ℕ) (r₀ r : List Float) : Type 
   pub long : length r ≡ length r₀
   pub later : (k : ℕ) → e ≤ k → k < m → get_or r k nan ≡ f k
   pub rest : (k : ℕ) → (e ≤ k → k < m → ⊥) → get_or r k nan ≡ get_or r₀ k nan
-
-pub results_none : (f : ℕ → Float) (m : ℕ) (r : List Float) → Results f m m r r
-results_none f m r = record { long = refl; later = λ k l h. absurd (omega arith); rest = λ k h. refl }
 
 pub results_more : {f : ℕ → Float} {m e : ℕ} {r₀ r : List Float} → Results f m e r₀ r → 0 < e → e ≤ m → m ≤ length r₀ → (x : Float) → x ≡ f (e - 1) → Results f m (e - 1) r₀ (set r (e - 1) x)
 results_more {f} {m} {e} {r₀} {r} R some le room x is =
@@ -55,10 +52,6 @@ results_done {f} {m} {e} {r₀} {r} R none room =
 pub record Moved (n : ℕ) (skip : Bool) (own other : List ℕ) (cursors e : ℕ) (w₀ w : List ℕ) : Type 0 where
   pub frame : Frame w₀ cursors n w
   pub at : (v : ℕ) → v < n → get_or w (cursors + v) 0 + among skip own other v e ≡ get_or w₀ (cursors + v) 0 + among skip own other v (length own)
-
-pub moved_none : (n : ℕ) (skip : Bool) (own other : List ℕ) (cursors e : ℕ) (w : List ℕ) → e ≡ length own → Moved n skip own other cursors e w w
-moved_none n skip own other cursors e w q =
-    record { frame = frame_none w cursors n; at = λ v h. ap (λ (k : ℕ). get_or w (cursors + v) 0 + among skip own other v k) q }
 
 pub moved_done : {n : ℕ} {skip : Bool} {own other : List ℕ} {cursors e : ℕ} {w₀ w : List ℕ} → Moved n skip own other cursors e w₀ w → e ≡ 0 → Walked n skip own other cursors w₀ w
 moved_done {n} {skip} {own} {other} {cursors} {e} {w₀} {w} M none =
@@ -149,72 +142,35 @@ module _ {n : ℕ} {skip : Bool} {own other : List ℕ} {cursors beside t e : �
       pair : get_or w (beside + get_or w (cursors + get_or own (e - 1) 0) 0) 0 ≡ get_or w₀ (beside + place_of skip own other w₀ cursors (e - 1)) 0
       pair = M.frame.rest 0 (beside + get_or w (cursors + get_or own (e - 1) 0) 0) (λ p q. omega (arith, low)) ∙ ap (λ (k : ℕ). get_or w₀ (beside + k) 0) place
 
--- what stands beside an entry is as it was, after a cursor moved
-beside_kept : (w : List ℕ) (cursors beside c x v : ℕ) → beside + c < cursors → get_or (set w (cursors + v) x) (beside + c) 0 ≡ get_or w (beside + c) 0
-beside_kept w cursors beside c x v l = miss w (cursors + v) x (beside + c) (λ q. omega arith)
-
 -- ---- forward: each edge gives an entry
 
--- what a turn reads and writes lies in the slices
-pub record ForwardTurn (own w : List ℕ) (cursors beside t e : ℕ) (wf results : List Float) : Type 0 where
-  pub edge : e ≤ length own
-  pub result : e ≤ length results
-  pub cursor : cursors + get_or own (e - 1) 0 < length w
-  pub few : get_or w (cursors + get_or own (e - 1) 0) 0 + 1 < 4294967296
-  pub low : beside + get_or w (cursors + get_or own (e - 1) 0) 0 < cursors
-  pub total : t + get_or (set w (cursors + get_or own (e - 1) 0) (get_or w (cursors + get_or own (e - 1) 0) 0 + 1)) (beside + get_or w (cursors + get_or own (e - 1) 0) 0) 0 < length wf
-
-module _ {n : ℕ} {from : List ℕ} {cursors beside t e : ℕ} {w₀ w : List ℕ} {wf r₀ r : List Float} (P : WalkPre n false from from w₀ cursors beside t wf r₀) (M : Moved n false from from cursors e w₀ w)
-    (R : Results (total_of false from from w₀ cursors beside t wf) (length from) e r₀ r) (some : 0 < e) (le : e ≤ length from) where
+module _ {n : ℕ} {from : List ℕ} {cursors beside t e : ℕ} {w₀ w : List ℕ} {wf r₀ : List Float} (P : WalkPre n false from from w₀ cursors beside t wf r₀) (M : Moved n false from from cursors e w₀ w) (some : 0 < e) (le : e ≤ length from) where
   forward_walk : WalkTurn false from from w₀ w cursors beside t e wf
   forward_walk = walk_turn P M some le (eq-eqb (get_or from (e - 1) 0) (get_or from (e - 1) 0) refl)
 
-  forward_read : get_or (set w (cursors + get_or from (e - 1) 0) (get_or w (cursors + get_or from (e - 1) 0) 0 + 1)) (beside + get_or w (cursors + get_or from (e - 1) 0) 0) 0 ≡ get_or w (beside + get_or w (cursors + get_or from (e - 1) 0) 0) 0
-  forward_read = beside_kept w cursors beside (get_or w (cursors + get_or from (e - 1) 0) 0) (get_or w (cursors + get_or from (e - 1) 0) 0 + 1) (get_or from (e - 1) 0) forward_walk.low
-
-  pub forward_turn : ForwardTurn from w cursors beside t e wf r
-  forward_turn =
+  pub forward_next : NextPre cursors beside t (get_or from (e - 1) 0) w wf
+  forward_next =
       record {
-        edge = le;
-        result = omega (arith, R.long, P.room);
-        cursor = omega (arith, M.frame.long, P.marks, P.ends (e - 1) (omega arith));
+        end = omega (arith, M.frame.long, P.marks, P.ends (e - 1) (omega arith));
         few = forward_walk.few;
-        low = forward_walk.low;
-        total = omega (arith, forward_read, forward_walk.total);
+        place = forward_walk.low;
+        total = forward_walk.total;
       }
 
-  pub forward_moved : Moved n false from from cursors (e - 1) w₀ (set w (cursors + get_or from (e - 1) 0) (get_or w (cursors + get_or from (e - 1) 0) 0 + 1))
-  forward_moved = moved_on M some (eq-eqb (get_or from (e - 1) 0) (get_or from (e - 1) 0) refl) P.marks (P.ends (e - 1) (omega arith))
+  module _ {w' : List ℕ} {x : Float} (T : NextTotal cursors beside t (get_or from (e - 1) 0) w wf w' x) where
+    pub forward_moved : Moved n false from from cursors (e - 1) w₀ w'
+    forward_moved =
+        subst (λ (u : List ℕ). Moved n false from from cursors (e - 1) w₀ u) (sym T.moved)
+        (moved_on M some (eq-eqb (get_or from (e - 1) 0) (get_or from (e - 1) 0) refl) P.marks (P.ends (e - 1) (omega arith)))
 
-  pub forward_more : Results (total_of false from from w₀ cursors beside t wf) (length from) (e - 1) r₀
-      (set r (e - 1) (get_or wf (t + get_or (set w (cursors + get_or from (e - 1) 0) (get_or w (cursors + get_or from (e - 1) 0) 0 + 1)) (beside + get_or w (cursors + get_or from (e - 1) 0) 0) 0) nan))
-  forward_more = results_more R some le P.room _ (ap (λ (k : ℕ). get_or wf (t + k) nan) (forward_read ∙ forward_walk.pair))
+    pub forward_more : {r : List Float} → Results (total_of false from from w₀ cursors beside t wf) (length from) e r₀ r → Results (total_of false from from w₀ cursors beside t wf) (length from) (e - 1) r₀ (set r (e - 1) x)
+    forward_more R = results_more R some le P.room x (T.total ∙ ap (λ (k : ℕ). get_or wf (t + k) nan) forward_walk.pair)
 
 pub forward_done : {n : ℕ} {from : List ℕ} {cursors beside t e : ℕ} {w₀ w : List ℕ} {wf r₀ r : List Float} → WalkPre n false from from w₀ cursors beside t wf r₀ → Moved n false from from cursors e w₀ w
     → Results (total_of false from from w₀ cursors beside t wf) (length from) e r₀ r → e ≡ 0 → ForwardPost n from w₀ cursors beside t wf r₀ w r
 forward_done P M R none = record { walked = moved_done M none; written = results_done R none P.room }
 
 -- ---- back: a self-loop gives no entry
-
--- one edge: its total
-pub back_kept : {cursors beside t from to : ℕ} {w : List ℕ} {wf : List Float} → BackPre cursors beside t from to w wf → (from ≡ to → ⊥)
-    → get_or (set w (cursors + to) (get_or w (cursors + to) 0 + 1)) (beside + get_or w (cursors + to) 0) 0 ≡ get_or w (beside + get_or w (cursors + to) 0) 0
-back_kept {cursors} {beside} {t} {from} {to} {w} B n = beside_kept w cursors beside (get_or w (cursors + to) 0) (get_or w (cursors + to) 0 + 1) to (B.place n)
-
-pub back_loop : {cursors beside t from to : ℕ} {forward : Float} {w : List ℕ} {wf : List Float} → from ≡ to → BackTotal cursors beside t from to forward w wf w forward
-back_loop {cursors} {beside} {t} {from} {to} {forward} {w} {wf} e =
-    record {
-      moved = ap (λ (b : Bool). cond b w (set w (cursors + to) (get_or w (cursors + to) 0 + 1))) (sym (eq-eqb from to e));
-      total = ap (λ (b : Bool). cond b forward (get_or wf (t + get_or w (beside + get_or w (cursors + to) 0) 0) nan)) (sym (eq-eqb from to e));
-    }
-
-pub back_other : {cursors beside t from to : ℕ} {forward : Float} {w : List ℕ} {wf : List Float} → BackPre cursors beside t from to w wf → (from ≡ to → ⊥)
-    → BackTotal cursors beside t from to forward w wf (set w (cursors + to) (get_or w (cursors + to) 0 + 1)) (get_or wf (t + get_or (set w (cursors + to) (get_or w (cursors + to) 0 + 1)) (beside + get_or w (cursors + to) 0) 0) nan)
-back_other {cursors} {beside} {t} {from} {to} {forward} {w} {wf} B n =
-    record {
-      moved = ap (λ (b : Bool). cond b w (set w (cursors + to) (get_or w (cursors + to) 0 + 1))) (sym (ne_eqb from to n));
-      total = ap (λ (k : ℕ). get_or wf (t + k) nan) (back_kept B n) ∙ ap (λ (b : Bool). cond b forward (get_or wf (t + get_or w (beside + get_or w (cursors + to) 0) 0) nan)) (sym (ne_eqb from to n));
-    }
 
 module _ {n : ℕ} {from to : List ℕ} {cursors beside t e : ℕ} {w₀ w : List ℕ} {wf r₀ : List Float} (P : WalkPre n true to from w₀ cursors beside t wf r₀) (M : Moved n true to from cursors e w₀ w) (some : 0 < e) (le : e ≤ length from) where
   gives : (get_or from (e - 1) 0 ≡ get_or to (e - 1) 0 → ⊥) → takes true (get_or to (e - 1) 0) (get_or from (e - 1) 0) (get_or to (e - 1) 0) ≡ true

@@ -3,7 +3,13 @@ use Rattle.std.specs.Prelude.{◌≡◌, ◌≢◌, Bool, cond, List, [], ◌∷
 use Rattle.regions.specs.Region.{Frame2}
 use Rattle.graph.specs.Edges.{Edge, Graph, entries}
 use Rattle.hops.specs.Hops.{Valid}
+use Rattle.graph.specs.Layout.{beside_at, queue_at, totals_at}
 use Rattle.hops.specs.Search.{graph_of, RowsOf}
+use Rattle.pairs.specs.declared.Table.{Table}
+
+-- where the pairs stand in the workspace of a graph of n nodes and m edges; the marks take the place of the queue
+abbrev pub table_at : ℕ → ℕ → Table
+table_at n m = record { beside = beside_at n m; marks = queue_at n m; totals = totals_at n }
 
 -- the place of the first x in a list
 unfoldable pub first_at : ℕ → List ℕ → ℕ

@@ -46,6 +46,18 @@ abbrev pub back_of : (from to w : List ℕ) (cursors beside t : ℕ) (wf forward
 back_of from to w cursors beside t wf forward i =
     cond (eqb (get_or from i 0) (get_or to i 0)) (get_or forward i nan) (total_of true to from w cursors beside t wf i)
 
+-- what `next_total` asks: the cursor of `own` stands at a place with a pair beside it and a total
+pub record NextPre (cursors beside t own : ℕ) (w : List ℕ) (wf : List Float) : Type 0 where
+  pub end : cursors + own < length w
+  pub few : get_or w (cursors + own) 0 + 1 < 4294967296
+  pub place : beside + get_or w (cursors + own) 0 < cursors
+  pub total : t + get_or w (beside + get_or w (cursors + own) 0) 0 < length wf
+
+-- what it leaves: the cursor one place on
+pub record NextTotal (cursors beside t own : ℕ) (w : List ℕ) (wf : List Float) (w' : List ℕ) (r : Float) : Type 0 where
+  pub moved : w' ≡ set w (cursors + own) (get_or w (cursors + own) 0 + 1)
+  pub total : r ≡ get_or wf (t + get_or w (beside + get_or w (cursors + own) 0) 0) nan
+
 -- what `back_total` asks: unless the edge is a self-loop, the cursor of `to` stands at a place with a pair beside it and a total
 pub record BackPre (cursors beside t from to : ℕ) (w : List ℕ) (wf : List Float) : Type 0 where
   pub end : cursors + to < length w

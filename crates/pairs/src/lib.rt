@@ -2,38 +2,58 @@
 #![tactic(auto)]
 
 ghost use Rattle.std.specs.Prelude.{◌≡◌, true, false, cond, ◌-◌, ◌≤◌, ltb, length};
-ghost use Rattle.pairs.specs.Numbers.{NumberPre, NumberPost, RowPre, RowNumbered};
-ghost use Rattle.pairs.specs.Writes.{WalkPre, ForwardPost, BackPre, BackTotal, BackPost};
+ghost use Rattle.graph.specs.Pres.{Limits};
+ghost use Rattle.pairs.specs.Numbers.{NumberPre, NumberPost, RowPre, RowNumbered, table_at};
+ghost use Rattle.pairs.specs.Writes.{WalkPre, ForwardPost, NextPre, NextTotal, BackPre, BackTotal, BackPost};
 
-// Beside each row entry, from `beside`, the number of its pair: the place of the first entry of the row that leads to the same node. From `marks`
-// each node has the last such place + 1, and 0 before there is one.
-pub fn number_pairs(nodes: usize, beside: usize, marks: usize, w32: &mut [u32])
-    requires { NumberPre nodes beside marks w32.old }
-    ensures { NumberPost nodes beside marks w32.old w32.new }
+// Where edge betweenness holds its pairs: from `beside` the number of each row entry's, from `totals` the total of each number, and from `marks` a
+// number for each node, which is its mark while the pairs are numbered, and its cursor while the results are written.
+#[derive(Clone, Copy)]
+pub struct Table {
+    pub beside: usize,
+    pub marks: usize,
+    pub totals: usize,
+}
+
+impl Table {
+    // The table in the workspace of a graph of so many nodes and edges.
+    pub fn of(nodes: usize, edges: usize) -> Table
+        requires { Limits nodes edges }
+        ensures { result ≡ table_at nodes edges }
+    {
+        Table {
+            beside: nodes + 1 + 2 * edges,
+            marks: 2 * nodes + 1 + 4 * edges,
+            totals: 4 * nodes,
+        }
+    }
+}
+
+// Beside each row entry the number of its pair: the place of the first entry of the row that leads to the same node. Each node's mark is the last
+// such place + 1, and 0 before there is one.
+pub fn number_pairs(nodes: usize, table: Table, w32: &mut [u32])
+    requires { NumberPre nodes table.beside table.marks w32.old }
+    ensures { NumberPost nodes table.beside table.marks w32.old w32.new }
 {
-    regions::fill32(w32, marks, nodes, 0);
-    let mut v = 0;
-    while v < nodes {
+    regions::fill(w32, table.marks, nodes, 0);
+    for v in 0..nodes {
         let a = w32[v] as usize;
         let e = w32[v + 1] as usize;
-        number_row(nodes, a, e, beside, marks, w32);
-        v += 1;
+        number_row(nodes, table, a, e, w32);
     }
 }
 
 // The row entries at places a to e: beside each, the place of the first of them that leads to the same node. No mark is above a.
-fn number_row(nodes: usize, a: usize, e: usize, beside: usize, marks: usize, w32: &mut [u32])
-    requires { RowPre nodes a e beside marks w32.old }
-    ensures { RowNumbered nodes a e beside marks w32.old w32.new }
+fn number_row(nodes: usize, table: Table, a: usize, e: usize, w32: &mut [u32])
+    requires { RowPre nodes a e table.beside table.marks w32.old }
+    ensures { RowNumbered nodes a e table.beside table.marks w32.old w32.new }
 {
     let rows = nodes + 1;
-    let mut p = a;
-    while p < e {
-        let at = marks + w32[rows + p] as usize;
+    for p in a..e {
+        let at = table.marks + w32[rows + p] as usize;
         let place = first_place(a as u32, p as u32, w32[at]);
         w32[at] = place + 1;
-        w32[beside + p] = place;
-        p += 1;
+        w32[table.beside + p] = place;
     }
 }
 
@@ -41,43 +61,32 @@ fn number_row(nodes: usize, a: usize, e: usize, beside: usize, marks: usize, w32
 fn first_place(a: u32, p: u32, mark: u32) -> u32
     ensures { result ≡ cond (ltb a mark) (mark - 1) p }
 {
-    if a < mark {
-        return mark - 1;
-    }
-    p
+    let marked = a < mark;
+    if marked { mark - 1 } else { p }
 }
 
 // Each edge's total: its pair stands, from `beside`, at the cursor of its `from`, which then moves on. The edges go by from the last to the first,
 // as the rows have them.
 pub fn write_forward(
     nodes: usize,
-    cursors: usize,
-    beside: usize,
-    totals: usize,
+    table: Table,
     from: &[u32],
     w32: &mut [u32],
     wf: &[f64],
     forward: &mut [f64],
 )
-    requires { WalkPre nodes false from.now from.now w32.old cursors beside totals wf.now forward.old }
-    ensures { ForwardPost nodes from.now w32.old cursors beside totals wf.now forward.old w32.new forward.new }
+    requires { WalkPre nodes false from.now from.now w32.old table.marks table.beside table.totals wf.now forward.old }
+    ensures { ForwardPost nodes from.now w32.old table.marks table.beside table.totals wf.now forward.old w32.new forward.new }
 {
-    let mut e = from.len();
-    while 0 < e {
-        e -= 1;
-        let at = cursors + from[e] as usize;
-        let place = w32[at];
-        w32[at] = place + 1;
-        forward[e] = wf[totals + w32[beside + place as usize] as usize];
+    for e in (0..from.len()).rev() {
+        forward[e] = next_total(table, from[e], w32, wf);
     }
 }
 
 // Each edge's total the other way round, by the cursor of its `to`; a self-loop has no entry of its own there, and the same total both ways.
 pub fn write_back(
     nodes: usize,
-    cursors: usize,
-    beside: usize,
-    totals: usize,
+    table: Table,
     from: &[u32],
     to: &[u32],
     w32: &mut [u32],
@@ -85,35 +94,32 @@ pub fn write_back(
     forward: &[f64],
     back: &mut [f64],
 )
-    requires { WalkPre nodes true to.now from.now w32.old cursors beside totals wf.now back.old × (length to.now ≤ length forward.now) }
-    ensures { BackPost nodes from.now to.now w32.old cursors beside totals wf.now forward.now back.old w32.new back.new }
+    requires { WalkPre nodes true to.now from.now w32.old table.marks table.beside table.totals wf.now back.old × (length to.now ≤ length forward.now) }
+    ensures { BackPost nodes from.now to.now w32.old table.marks table.beside table.totals wf.now forward.now back.old w32.new back.new }
 {
-    let mut e = from.len();
-    while 0 < e {
-        e -= 1;
-        back[e] = back_total(cursors, beside, totals, from[e], to[e], forward[e], w32, wf);
+    for e in (0..from.len()).rev() {
+        back[e] = back_total(table, from[e], to[e], forward[e], w32, wf);
     }
 }
 
 // One edge's total the other way round.
-fn back_total(
-    cursors: usize,
-    beside: usize,
-    totals: usize,
-    from: u32,
-    to: u32,
-    forward: f64,
-    w32: &mut [u32],
-    wf: &[f64],
-) -> f64
-    requires { BackPre cursors beside totals from to w32.old wf.now }
-    ensures { BackTotal cursors beside totals from to forward w32.old wf.now w32.new result }
+fn back_total(table: Table, from: u32, to: u32, forward: f64, w32: &mut [u32], wf: &[f64]) -> f64
+    requires { BackPre table.marks table.beside table.totals from to w32.old wf.now }
+    ensures { BackTotal table.marks table.beside table.totals from to forward w32.old wf.now w32.new result }
 {
     if from == to {
         return forward;
     }
-    let at = cursors + to as usize;
+    next_total(table, to, w32, wf)
+}
+
+// The total of the pair at the node's cursor, which then moves on.
+fn next_total(table: Table, own: u32, w32: &mut [u32], wf: &[f64]) -> f64
+    requires { NextPre table.marks table.beside table.totals own w32.old wf.now }
+    ensures { NextTotal table.marks table.beside table.totals own w32.old wf.now w32.new result }
+{
+    let at = table.marks + own as usize;
     let place = w32[at];
     w32[at] = place + 1;
-    wf[totals + w32[beside + place as usize] as usize]
+    wf[table.totals + w32[table.beside + place as usize] as usize]
 }

@@ -1,7 +1,6 @@
 -- The rounds of `personalized_pagerank`: its turns over the workspace, a round as it is defined, and how the call begins and ends. Assumes nothing.
-use Rattle.std.proofs.Common.{◌≡◌, ℕ, ◌+◌, ◌*◌, ◌<◌, ◌≤◌, Bool, true, false, cond, eqb, List, [], length, get_or, set, sym, refl, ap, ◌∙◌, true≢false, arith}
+use Rattle.std.proofs.Common.{◌≡◌, ℕ, ◌+◌, ◌*◌, ◌<◌, ◌≤◌, Bool, true, false, cond, eqb, ltb, List, [], length, get_or, set, sym, refl, ap, ◌∙◌, true≢false, arith}
 use mathlib.Core.List.{foldl}
-use borrow.Author.Tests.{eqb-false}
 use lib.Ieee.{Float, nan, binary64, add, sub, mul, div, lt}
 use Rattle.regions.specs.Doubles.{double, one}
 use Rattle.roots.specs.Absolute.{abs_of}
@@ -9,10 +8,12 @@ use Rattle.regions.specs.Region.{zero_f, list_of, Front, Copied, Apart}
 use Rattle.regions.proofs.Parts.{part_at, part_is, part_list}
 use Rattle.regions.proofs.Fronts.{miss_d, front_then, front_wide}
 use Rattle.regions.proofs.Frames.{frame_front, frame_part}
-use Rattle.answers.specs.declared.Answer.{Answer}
+use Rattle.std.specs.Prelude.{Result}
+use Rattle.answers.specs.declared.Refusal.{Refusal}
 use Rattle.answers.specs.declared.Settings.{Settings}
 use Rattle.answers.specs.declared.Rounds.{Rounds}
-use Rattle.answers.specs.Answers.{Said}
+use Rattle.answers.specs.Answers.{Said, refused_if}
+use Rattle.graph.specs.declared.Fronts.{Fronts}
 use Rattle.graph.specs.Fronts.{usual_fronts}
 use Rattle.graph.specs.Given.{Given, graph_in}
 use Rattle.graph.specs.Left.{Left}
@@ -20,19 +21,20 @@ use Rattle.graph.specs.Pres.{Ready, Passed}
 use Rattle.graph.specs.Refusals.{first_refusal}
 use Rattle.graph.proofs.Left.{went_on}
 use Rattle.lists.specs.Lists.{Share}
-use Rattle.rounds.specs.Rounds.{after, Round, round, outcome_from, outcome}
-use Rattle.rounds.specs.Steps.{RoundsDone}
-use Rattle.rounds.specs.Tests.{reads_wrong, length_wrong, iterative_tests}
+use Rattle.rounds.specs.Rounds.{after, Round, round, outcome}
+use Rattle.rounds.specs.declared.Own.{Own}
+use Rattle.rounds.specs.Steps.{RoundDone, RoundsDone}
+use Rattle.rounds.specs.Tests.{reads_wrong, length_wrong, own_tests}
 use Rattle.rounds.specs.Ending.{scored}
 use Rattle.rounds.specs.Vectors.{entry, current_in, next_in, Vectors}
 use Rattle.rounds.proofs.Rounds.{after_more}
 use Rattle.rounds.proofs.Vectors.{current_at, next_at_lem, next_set, next_list, vectors_are}
 use Rattle.rounds.proofs.Passes.{Rewritten, rewritten_done}
-use Rattle.rounds.proofs.Tests.{iterative_ready, iterative_fits, length_right}
+use Rattle.rounds.proofs.Tests.{checked, iterative_ready, iterative_fits, length_right}
 use Rattle.links.specs.Links.{Links, links_of, links_in, shares_in, outs_in, gives, sum_of, divisor_of, divided_at, divided, settles, with_change, absolute_change}
-use Rattle.links.specs.Steps.{LinksPre, Prepared, written_by, DividePre, Divided, Advanced, RoundDone}
+use Rattle.links.specs.Steps.{Prepared, written_by, DividePre, Divided, Advanced}
 use Rattle.links.proofs.Turns.{region_kept, shares_kept, links_kept, out_at, distributed, nodes_more}
-use Rattle.links.proofs.Rounds.{advanced_round, links_pre_long, pre_kept, run_some}
+use Rattle.links.proofs.Rounds.{advanced_round, links_pre_long, pre_kept}
 use Rattle.links.proofs.Ending.{written}
 use Rattle.personalized_pagerank.specs.Personalized.{personal_in, personal_base, gains_part, spreads_personal, personal_node, personal_next, personal_step, counts_of, personal_of, personal_rounds, damping_wrong, personal_own, personal_tests, personalized_outcome}
 use Rattle.personalized_pagerank.specs.Steps.{bases_in, RoundPre, PersonalPre, PersonalBegun}
@@ -106,37 +108,45 @@ module _ (n : ℕ) (d : Float) (wf₀ : List Float) where
 pub bases_kept : (n : ℕ) (d : Float) {wf wf' : List Float} → 4 * n ≤ length wf → Front wf (n + n) wf' → bases_in n d wf' ≡ bases_in n d wf
 bases_kept n d room front = ap (λ (p : List Float). list_of (personal_base d p) n) (personal_kept n room front)
 
-module _ (n : ℕ) (w : List ℕ) (d : Float) (wf : List Float) (pre : RoundPre n w d wf) where
-  pub personal_round_done : {wf2 wf3 : List Float} {change : Float}
-      → Vectors n wf (current_in n wf) (after (personal_node (links_in n w wf) d (personal_in n wf) (current_in n wf)) n (next_in n wf)) wf2 → Advanced n wf2 change wf3 × (next_in n wf3 ≡ bases_in n d wf2)
-      → RoundDone n (personal_next (links_in n w wf) d (personal_in n wf)) wf change wf3 × (next_in n wf3 ≡ bases_in n d wf)
-  unfolding personal_next
-  personal_round_done s a = (
-    advanced_round n (personal_next (links_in n w wf) d (personal_in n wf))
-        (vectors_are refl (ap (after (personal_node (links_in n w wf) d (personal_in n wf) (current_in n wf)) n) pre.begun) s)
-        a.0,
-    a.1 ∙ bases_kept n d pre.links.room s.front,
-  )
-
-  -- and another may begin
-  pub again_pre : {change : Float} {wf' : List Float} → RoundDone n (personal_next (links_in n w wf) d (personal_in n wf)) wf change wf' × (next_in n wf' ≡ bases_in n d wf) → RoundPre n w d wf'
-  again_pre r = record { links = pre_kept n w pre.links r.0.front; begun = r.1 ∙ sym (bases_kept n d pre.links.room r.0.front) }
-
--- a round reads the same links and personalization as the first
-pub personal_round_kept : (n : ℕ) (w : List ℕ) (d : Float) {wf₀ wf : List Float} → LinksPre n w wf₀ → Front wf₀ (n + n) wf → {change : Float} {wf' : List Float}
-    → RoundDone n (personal_next (links_in n w wf) d (personal_in n wf)) wf change wf' → RoundDone n (personal_next (links_in n w wf₀) d (personal_in n wf₀)) wf change wf'
-personal_round_kept n w d {wf₀} {wf} pre front r =
-    record {
-      front = r.front;
-      current = r.current
-          ∙ ap (λ (l : Links). personal_next l d (personal_in n wf) (current_in n wf)) (links_kept n w pre.room front)
-          ∙ ap (λ (p : List Float). personal_next (links_in n w wf₀) d p (current_in n wf)) (personal_kept n pre.room front);
-      changed = r.changed;
-    }
-
 pub personal_is : (l : Links) (d tolerance : Float) (p x : List Float) → personal_step l d tolerance p x ≡ round (personal_next l d p x) (settles tolerance l.nodes x (personal_next l d p x))
 unfolding personal_step
 personal_is l d tolerance p x = refl
+
+module _ (n : ℕ) (w : List ℕ) (d : Float) (wf : List Float) (pre : RoundPre n w d wf) where
+  pub personal_round_done : (tolerance : Float) {wf2 wf3 : List Float} {change bound : Float}
+      → Vectors n wf (current_in n wf) (after (personal_node (links_in n w wf) d (personal_in n wf) (current_in n wf)) n (next_in n wf)) wf2 → Advanced n wf2 change wf3 × (next_in n wf3 ≡ bases_in n d wf2)
+      → bound ≡ mul binary64 tolerance (double n)
+      → RoundDone n (personal_step (links_in n w wf) d tolerance (personal_in n wf)) wf (lt change bound) wf3 × (next_in n wf3 ≡ bases_in n d wf)
+  unfolding personal_next
+  personal_round_done tolerance s a eb = (
+    advanced_round n (personal_next (links_in n w wf) d (personal_in n wf)) (personal_step (links_in n w wf) d tolerance (personal_in n wf)) tolerance (personal_is (links_in n w wf) d tolerance (personal_in n wf))
+        (vectors_are refl (ap (after (personal_node (links_in n w wf) d (personal_in n wf) (current_in n wf)) n) pre.begun) s)
+        a.0
+        eb,
+    a.1 ∙ bases_kept n d pre.links.room s.front,
+  )
+
+-- ---- rounds
+-- what a round asks of the floats, and that it reads the links and the personalization that the first one read
+pub record Asked (n : ℕ) (w : List ℕ) (d : Float) (wf₀ wf : List Float) : Type 0 where
+  pub pre : RoundPre n w d wf
+  pub links_same : links_in n w wf ≡ links_in n w wf₀
+  pub personal_same : personal_in n wf ≡ personal_in n wf₀
+
+-- a round keeps that
+pub asked_kept : (n : ℕ) (w : List ℕ) (d tolerance : Float) (wf₀ : List Float) {wf wf' : List Float} {met : Bool} → Asked n w d wf₀ wf
+    → RoundDone n (personal_step (links_in n w wf) d tolerance (personal_in n wf)) wf met wf' × (next_in n wf' ≡ bases_in n d wf)
+    → RoundDone n (personal_step (links_in n w wf₀) d tolerance (personal_in n wf₀)) wf met wf' × Asked n w d wf₀ wf'
+asked_kept n w d tolerance wf₀ {wf} {wf'} {met} s r =
+    let room = s.pre.links.room in
+    let front = r.0.front in (
+      rw (s.links_same, s.personal_same) at r.0,
+      record {
+        pre = record { links = pre_kept n w s.pre.links front; begun = r.1 ∙ sym (bases_kept n d room front) };
+        links_same = links_kept n w room front ∙ s.links_same;
+        personal_same = personal_kept n room front ∙ s.personal_same;
+      },
+    )
 
 -- ---- `begin`
 module _ (n : ℕ) (damping : Float) (flag : Bool) (xs wf : List Float) (pre : PersonalPre n flag xs wf) where
@@ -199,15 +209,12 @@ module _ (n : ℕ) (damping : Float) (flag : Bool) (xs wf : List Float) (pre : P
 -- ---- `personalized_pagerank`
 module _ (settings : Settings) (flag : Bool) (vector : List Float) (g : Given (List Float)) where
   -- the tests as the code found them
-  pub personal_answered : {a : Answer} {b c d : Bool}
-      → a ≡ first_refusal (iterative_tests g true (record { number = b; damping = d; rounds = eqb settings.limit 0; lengths = c; start = false }))
+  pub personal_answered : {x : Result (Unit {0}) Refusal} {l : Fronts} {b c d : Bool} → (l.narrow ≡ length g.w32) × (l.wide ≡ length g.w64) × (l.floats ≡ length g.wf)
       → b ≡ reads_wrong g.weight settings.damping settings.tolerance flag vector → c ≡ length_wrong flag (length vector) g.nodes → d ≡ damping_wrong settings.damping
-      → a ≡ first_refusal (personal_tests settings flag vector g)
-  personal_answered {a} {b} {c} {d} e eb ec ed =
-      e
-      ∙ ap (λ (z : Bool). first_refusal (iterative_tests g true (record { number = z; damping = d; rounds = eqb settings.limit 0; lengths = c; start = false }))) eb
-      ∙ ap (λ (z : Bool). first_refusal (iterative_tests g true (record { number = reads_wrong g.weight settings.damping settings.tolerance flag vector; damping = d; rounds = eqb settings.limit 0; lengths = z; start = false }))) ec
-      ∙ ap (λ (z : Bool). first_refusal (iterative_tests g true (record { number = reads_wrong g.weight settings.damping settings.tolerance flag vector; damping = z; rounds = eqb settings.limit 0; lengths = length_wrong flag (length vector) g.nodes; start = false }))) ed
+      → let own : Own = record { number = b; damping = d; rounds = eqb settings.limit 0; lengths = c; start = false } in
+      x ≡ refused_if (first_refusal (own_tests g.nodes g.from g.to g.weight true own (ltb (length g.results) g.nodes) l.narrow l.wide l.floats))
+      → x ≡ refused_if (first_refusal (personal_tests settings flag vector g))
+  personal_answered z eb ec ed e = rw (eb, ec, ed) at (checked g true _ z e)
 
   module _ (p : Passed (personal_tests settings flag vector g)) where
     pub personal_ready : Ready g
@@ -215,9 +222,6 @@ module _ (settings : Settings) (flag : Bool) (vector : List Float) (g : Given (L
 
     pub personal_fits : g.nodes ≤ length g.results
     personal_fits = iterative_fits g true (personal_own settings flag vector g) p
-
-    some_nodes : g.nodes ≡ 0 → ⊥
-    some_nodes = eqb-false g.nodes 0 p.empty
 
     module _ {w1 : List ℕ} {wf1 : List Float} (s1 : Prepared g.nodes g.directed g.from g.to g.weight g.w32 w1 g.wf wf1) where
       pub personal_pre : PersonalPre g.nodes flag vector wf1
@@ -245,7 +249,7 @@ module _ (settings : Settings) (flag : Bool) (vector : List Float) (g : Given (L
             ∙ ap (outcome (eqb g.nodes 0) (Stepping (links_of (graph_in g)) (personal_of flag vector g.nodes)) settings.limit) s2.current
 
         module _ {wf3 : List Float} {r : Rounds}
-            (s3 : RoundsDone g.nodes settings (outcome_from (Stepping (links_in g.nodes w1 wf2) (personal_in g.nodes wf2)) settings.limit 0 (current_in g.nodes wf2)) wf2 r wf3) where
+            (s3 : RoundsDone g.nodes settings (outcome (eqb g.nodes 0) (Stepping (links_in g.nodes w1 wf2) (personal_in g.nodes wf2)) settings.limit (current_in g.nodes wf2)) wf2 r wf3) where
           pub personal_moved : Front wf1 (4 * g.nodes) wf3
           personal_moved = front_then s2.front (front_wide (4 * g.nodes) (omega arith) s3.front)
 
@@ -253,7 +257,6 @@ module _ (settings : Settings) (flag : Bool) (vector : List Float) (g : Given (L
               → o ≡ personalized_outcome settings flag vector g
           unfolding personalized_outcome
           personal_ended e =
-              let done = run_some g.nodes (Stepping (links_in g.nodes w1 wf2) (personal_in g.nodes wf2)) settings wf2 some_nodes s3 in
               e
-              ∙ written g personal_ready personal_fits s1 settings (personal_rounds (links_of (graph_in g)) settings flag vector) r personal_moved s3.settings_kept (done.ended ∙ rounds_are)
+              ∙ written g personal_ready personal_fits s1 settings (personal_rounds (links_of (graph_in g)) settings flag vector) r personal_moved s3.settings_kept (s3.ended ∙ rounds_are)
               ∙ went_on g (personal_tests settings flag vector g) (scored g settings (personal_rounds (links_of (graph_in g)) settings flag vector)) p

@@ -7,9 +7,10 @@ use Rattle.regions.specs.Region.{zero_f, list_of}
 use Rattle.regions.proofs.Fronts.{list_long}
 use Rattle.answers.specs.declared.Settings.{Settings}
 use Rattle.answers.specs.declared.Rounds.{Rounds}
-use Rattle.answers.specs.Answers.{done, said_ended}
-use Rattle.answers.specs.declared.Ended.{Ended}
-use Rattle.answers.proofs.Said.{ended_returned}
+use Rattle.answers.specs.Answers.{done, said_by}
+use Rattle.std.specs.Prelude.{Result}
+use Rattle.answers.specs.declared.Refusal.{Refusal}
+use Rattle.answers.proofs.Said.{returned}
 use Rattle.graph.specs.Given.{Given, graph_in}
 use Rattle.graph.specs.Refusals.{first_refusal}
 use Rattle.graph.specs.Left.{left}
@@ -22,11 +23,11 @@ use Rattle.links.specs.Links.{Links, links_of, distributes, sum_of}
 use Rattle.links.proofs.Settled.{distributes_long, after_long, divided_long, rounds_finite, scores_finite}
 use Rattle.personalized_pagerank.specs.Personalized.{personal_base, gains_part, spreads_personal, personal_node, personal_next, personal_step, counts_of, personal_of, personal_rounds, personal_tests, personalized_outcome}
 
-pub personalized_unique : (settings : Settings) (flag : Bool) (vector : List Float) (g : Given (List Float)) {r r' : Ended} {s s' : List Float} {x x' y y' : List ℕ} {z z' : List Float}
-    → left (said_ended r) s x y z ≡ personalized_outcome settings flag vector g → left (said_ended r') s' x' y' z' ≡ personalized_outcome settings flag vector g → (r ≡ r') × (s ≡ s') × (x ≡ x') × (y ≡ y') × (z ≡ z')
+pub personalized_unique : (settings : Settings) (flag : Bool) (vector : List Float) (g : Given (List Float)) {r r' : Result Rounds Refusal} {s s' : List Float} {x x' y y' : List ℕ} {z z' : List Float}
+    → left (said_by r) s x y z ≡ personalized_outcome settings flag vector g → left (said_by r') s' x' y' z' ≡ personalized_outcome settings flag vector g → (r ≡ r') × (s ≡ s') × (x ≡ x') × (y ≡ y') × (z ≡ z')
 personalized_unique settings flag vector g {r} {r'} p q =
     let same = no_second p q in
-    (ended_returned r r' same.0, same.1, same.2, same.3, same.4)
+    (returned r r' same.0, same.1, same.2, same.3, same.4)
 
 module _ (l : Links) (settings : Settings) (flag : Bool) (vector : List Float) where
   abbrev personal : List Float

@@ -1,31 +1,28 @@
 // Personalized PageRank: scores that nodes pass on along their weighted lists, round by round, and that keep to a personalization vector.
 #![tactic(auto)]
 
-ghost use Rattle.std.specs.Prelude.{◌≡◌, ◌*◌, ◌<◌, ◌≤◌, length, if◌then◌else◌};
+ghost use Rattle.std.specs.Prelude.{◌≡◌, ◌*◌, ◌<◌, ◌≤◌, length, if◌then◌else◌, ◌==◌};
 ghost use Rattle.regions.specs.Doubles.{double};
-ghost use Rattle.answers.specs.Answers.{said_ended};
-ghost use Rattle.graph.specs.Given.{given as lent};
+ghost use Rattle.answers.specs.Answers.{said_by};
+ghost use Rattle.graph.specs.Given.{lent};
 ghost use Rattle.graph.specs.Left.{left};
-ghost use Rattle.rounds.specs.Steps.{RoundsDone};
-ghost use Rattle.rounds.specs.Rounds.{after, outcome_from};
+ghost use Rattle.rounds.specs.Steps.{RoundDone, RoundsDone};
+ghost use Rattle.rounds.specs.Rounds.{after, outcome};
 ghost use Rattle.rounds.specs.Vectors.{current_in, next_in, Vectors};
 ghost use Rattle.links.specs.Links.{links_in};
-ghost use Rattle.links.specs.Steps.{LinksPre, Divided, Advanced, RoundDone};
-ghost use Rattle.personalized_pagerank.specs.Personalized.{personal_in, gains_part, personal_node, personal_next, personal_step, counts_of, personal_of, damping_wrong, personalized_outcome};
+ghost use Rattle.links.specs.Steps.{LinksPre, Divided, Advanced};
+ghost use Rattle.personalized_pagerank.specs.Personalized.{personal_in, gains_part, personal_node, personal_step, counts_of, personal_of, damping_wrong, personalized_outcome};
 ghost use Rattle.personalized_pagerank.specs.Steps.{bases_in, RoundPre, PersonalPre, PersonalBegun};
 
-use answers::{Ended, Refusal, Rounds, Settings};
+use answers::{Refusal, Rounds, Settings};
+use graph::Graph;
 use rounds::Own;
 
 // From the personalization vector, into which nodes with no out-weight above zero dangle; 1/n for each node unless a vector is given whose
 // sum is positive.
 // Refuses SIZE, EMPTY, NODE, NUMBER, DAMPING, ROUNDS, LENGTH, ROOM, in this order. Running out of rounds is DONE, not settled.
 pub fn personalized_pagerank(
-    nodes: usize,
-    directed: bool,
-    from: &[u32],
-    to: &[u32],
-    weight: &[f64],
+    graph: Graph<'_>,
     settings: Settings,
     given: bool,
     personalization: &[f64],
@@ -33,51 +30,30 @@ pub fn personalized_pagerank(
     w32: &mut [u32],
     w64: &mut [u64],
     wf: &mut [f64],
-) -> Ended
-    ensures { left (said_ended result) scores.new w32.new w64.new wf.new ≡ personalized_outcome settings given personalization.now (lent nodes directed from.now to.now weight.now scores.old w32.old w64.old wf.old) }
+) -> Result<Rounds, Refusal>
+    ensures { left (said_by result) scores.new w32.new w64.new wf.new ≡ personalized_outcome settings given personalization.now (lent graph.entry scores.old w32.old w64.old wf.old) }
 {
+    let nodes = graph.nodes;
     let own = Own {
-        number: rounds::reads_wrong(
-            weight,
-            settings.damping,
-            settings.tolerance,
-            given,
-            personalization,
-        ),
+        number: rounds::reads_wrong(graph.weight, settings, given, personalization),
         damping: damping_wrong(settings.damping),
         rounds: settings.limit == 0,
         lengths: rounds::length_wrong(given, personalization.len(), nodes),
         start: false,
     };
-    let answer = rounds::refusal(
-        nodes,
-        from,
-        to,
-        weight,
-        true,
-        own,
-        scores.len() < nodes,
-        w32.len(),
-        w64.len(),
-        wf.len(),
-    );
-    if answers::refuses(answer) {
-        return Ended::Refused(Refusal { answer });
-    }
-    links::prepare(nodes, directed, from, to, weight, w32, wf);
+    let lengths = graph::lengths(w32, w64, wf);
+    rounds::refusal(graph, true, own, scores.len() < nodes, lengths)?;
+    links::prepare(graph, w32, wf);
     begin(nodes, settings.damping, given, personalization, wf);
     let ended = run(nodes, settings, w32, wf);
-    links::write(nodes, from.len(), ended, scores, w32, w64, wf)
+    links::write(nodes, graph.from.len(), ended, scores, w32, w64, wf)
 }
 
 // DAMPING: 0 or below, or 1 or above.
 fn damping_wrong(damping: f64) -> bool
     ensures { result ≡ damping_wrong damping }
 {
-    if damping <= 0.0 {
-        return true;
-    }
-    1.0 <= damping
+    damping <= 0.0 || 1.0 <= damping
 }
 
 // The personalization in its region and as the current vector, and the next vector as the first round begins with it.
@@ -89,7 +65,7 @@ fn begin(nodes: usize, damping: f64, given: bool, vector: &[f64], wf: &mut [f64]
     let counts = counts(given, sum);
     let base = 3 * nodes;
     links::divide(nodes, counts, vector, chosen(counts, sum, nodes), base, wf);
-    regions::copyf_within(wf, base, 0, nodes);
+    regions::copy_within(wf, base, 0, nodes);
     bases(nodes, damping, wf);
 }
 
@@ -97,10 +73,7 @@ fn begin(nodes: usize, damping: f64, given: bool, vector: &[f64], wf: &mut [f64]
 fn counts(given: bool, sum: f64) -> bool
     ensures { result ≡ counts_of given sum }
 {
-    if given {
-        return 0.0 < sum;
-    }
-    false
+    given && 0.0 < sum
 }
 
 // The sum of a vector that counts, else the number of nodes.
@@ -108,45 +81,32 @@ fn chosen(counts: bool, sum: f64, nodes: usize) -> f64
     ensures { result ≡ (if counts then sum else double nodes) }
 {
     if counts {
-        return sum;
+        sum
+    } else {
+        std::num::nearest_u64_to_f64(nodes as u64)
     }
-    std::num::nearest_u64_to_f64(nodes as u64)
 }
 
-// Rounds until one meets the stop rule, or all are used.
+// The rounds; no nodes is a stop rule met before the first of them.
 fn run(nodes: usize, settings: Settings, w: &[u32], wf: &mut [f64]) -> Rounds
     requires { RoundPre nodes w.now settings.damping wf.old }
-    ensures { RoundsDone nodes settings (outcome_from (personal_step (links_in nodes w.now wf.old) settings.damping settings.tolerance (personal_in nodes wf.old)) settings.limit 0 (current_in nodes wf.old)) wf.old result wf.new }
+    ensures { RoundsDone nodes settings (outcome (nodes == 0) (personal_step (links_in nodes w.now wf.old) settings.damping settings.tolerance (personal_in nodes wf.old)) settings.limit (current_in nodes wf.old)) wf.old result wf.new }
 {
-    let damping = settings.damping;
-    let limit = settings.limit;
-    let bound = settings.tolerance * std::num::nearest_u64_to_f64(nodes as u64);
-    let mut k = 0u64;
-    while k < limit {
-        let change = round(nodes, damping, w, wf);
-        k += 1;
-        if change < bound {
-            return Rounds {
-                settings,
-                rounds: k,
-                settled: true,
-            };
-        }
-    }
-    Rounds {
-        settings,
-        rounds: k,
-        settled: false,
-    }
+    let one = |floats: &mut [f64]| -> bool
+        requires { RoundPre nodes w.now settings.damping floats.old }
+        ensures { RoundDone nodes (personal_step (links_in nodes w.exit.now floats.old) settings.damping settings.tolerance (personal_in nodes floats.old)) floats.old result floats.new × (next_in nodes floats.new ≡ bases_in nodes settings.damping floats.old) }
+    { round(nodes, settings, w, floats) };
+    rounds::run(settings, nodes == 0, one, wf)
 }
 
-// One round. Gives the summed absolute change.
-fn round(nodes: usize, damping: f64, w: &[u32], wf: &mut [f64]) -> f64
-    requires { RoundPre nodes w.now damping wf.old }
-    ensures { RoundDone nodes (personal_next (links_in nodes w.now wf.old) damping (personal_in nodes wf.old)) wf.old result wf.new × (next_in nodes wf.new ≡ bases_in nodes damping wf.old) }
+// One round. Says whether the summed absolute change is below tolerance*n.
+fn round(nodes: usize, settings: Settings, w: &[u32], wf: &mut [f64]) -> bool
+    requires { RoundPre nodes w.now settings.damping wf.old }
+    ensures { RoundDone nodes (personal_step (links_in nodes w.now wf.old) settings.damping settings.tolerance (personal_in nodes wf.old)) wf.old result wf.new × (next_in nodes wf.new ≡ bases_in nodes settings.damping wf.old) }
 {
-    spread(nodes, damping, w, wf);
-    advance(nodes, damping, wf)
+    let n = std::num::nearest_u64_to_f64(nodes as u64);
+    spread(nodes, settings.damping, w, wf);
+    advance(nodes, settings.damping, wf) < settings.tolerance * n
 }
 
 // The next vector at 0.0 + (1-damping)*p[j].
@@ -156,10 +116,8 @@ fn bases(nodes: usize, damping: f64, wf: &mut [f64])
 {
     let kept = 1.0 - damping;
     let base = 3 * nodes;
-    let mut j = 0;
-    while j < nodes {
+    for j in 0..nodes {
         wf[nodes + j] = 0.0 + kept * wf[base + j];
-        j += 1;
     }
 }
 
@@ -168,10 +126,8 @@ fn spread(nodes: usize, damping: f64, w: &[u32], wf: &mut [f64])
     requires { LinksPre nodes w.now wf.old }
     ensures { Vectors nodes wf.old (current_in nodes wf.old) (after (personal_node (links_in nodes w.now wf.old) damping (personal_in nodes wf.old) (current_in nodes wf.old)) nodes (next_in nodes wf.old)) wf.new }
 {
-    let mut v = 0;
-    while v < nodes {
+    for v in 0..nodes {
         spread_node(nodes, damping, w, v, wf);
-        v += 1;
     }
 }
 
@@ -183,9 +139,9 @@ fn spread_node(nodes: usize, damping: f64, w: &[u32], v: usize, wf: &mut [f64])
     let out = wf[2 * nodes + v];
     if 0.0 < out {
         links::give(nodes, damping * wf[v] / out, w, v, wf);
-        return;
+    } else {
+        dangle(nodes, damping * wf[v], wf);
     }
-    dangle(nodes, damping * wf[v], wf);
 }
 
 // Each node gains dangling*p[j], in order.
@@ -194,10 +150,8 @@ fn dangle(nodes: usize, dangling: f64, wf: &mut [f64])
     ensures { Vectors nodes wf.old (current_in nodes wf.old) (after (gains_part dangling (personal_in nodes wf.old)) nodes (next_in nodes wf.old)) wf.new }
 {
     let base = 3 * nodes;
-    let mut j = 0;
-    while j < nodes {
-        wf[nodes + j] = wf[nodes + j] + dangling * wf[base + j];
-        j += 1;
+    for j in 0..nodes {
+        wf[nodes + j] += dangling * wf[base + j];
     }
 }
 
@@ -209,13 +163,11 @@ fn advance(nodes: usize, damping: f64, wf: &mut [f64]) -> f64
     let kept = 1.0 - damping;
     let base = 3 * nodes;
     let mut change = 0.0;
-    let mut i = 0;
-    while i < nodes {
+    for i in 0..nodes {
         let next = wf[nodes + i];
-        change = change + roots::abs(wf[i] - next);
+        change += roots::abs(wf[i] - next);
         wf[i] = next;
         wf[nodes + i] = 0.0 + kept * wf[base + i];
-        i += 1;
     }
     change
 }

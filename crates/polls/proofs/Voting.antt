@@ -3,12 +3,12 @@ use mathlib.Core.Path.{◌≡◌, refl, sym, ap, ◌∙◌}
 use mathlib.Core.Bool.{Bool, true, false, ◌||◌, cond}
 use mathlib.Core.Logic.{⊎_elim}
 use mathlib.Core.List.{List, [], ◌∷◌, ◌++◌, foldl, foldl-append}
-use Prim.Native.Nat.{ℕ, zero, suc, ◌+◌, ◌*◌, ◌≤◌, ◌<◌}
+use Prim.Native.Nat.{ℕ, zero, suc, ◌+◌, ◌-◌, ◌*◌, ◌≤◌, ◌<◌}
 use native.Mathlib.Numerals.{add-one}
 use native.Mathlib.Omega.{arith}
 use borrow.Author.Tests.{eqb-true, eqb-false}
 use lib.Dec.{eqb}
-use lib.ListN.{length, get_or, set, take, length-set}
+use lib.ListN.{length, get_or, set, take}
 use lib.Seq.{take-suc, take-length}
 use lib.Ieee.{Float, binary64, nan, add, sub, lt}
 use Rattle.regions.specs.Region.{zero_f, Frame, Filled}
@@ -180,9 +180,14 @@ pub highest_none : (s : ℕ → Float) → ◌≡◌ {A = ℕ} 0 (first_highest 
 unfolding first_highest
 highest_none s = refl
 
-pub highest_more : (s : ℕ → Float) (k b r : ℕ) → b ≡ first_highest s k → r ≡ cond (lt (s b) (s (k + 1))) (k + 1) b → r ≡ first_highest s (k + 1)
+-- v is the next one
+pub highest_more : (s : ℕ → Float) (v b r : ℕ) → 1 ≤ v → b ≡ first_highest s (v - 1) → r ≡ cond (lt (s b) (s v)) v b → r ≡ first_highest s (v + 1 - 1)
 unfolding first_highest
-highest_more s k b r e q = q ∙ ap (λ (x : ℕ). cond (lt (s x) (s (k + 1))) (k + 1) x) e ∙ rw (add-one k)
+highest_more s zero b r l e q = absurd (omega arith)
+highest_more s (suc k) b r l e q =
+    let p : suc k - 1 ≡ k = omega arith in
+    let n : suc k + 1 - 1 ≡ suc k = omega arith in
+    rw n (q ∙ ap (λ (x : ℕ). cond (lt (s x) (s (suc k))) (suc k) x) (e ∙ ap (first_highest s) p))
 
 pub highest_among : (s : ℕ → Float) (k : ℕ) → first_highest s k ≤ k
 unfolding first_highest
@@ -197,10 +202,6 @@ highest_same s t (suc k) h =
     cc (b, h (first_highest s k) (omega (arith, highest_among s k)), h (suc k) (omega arith))
 
 -- ---- the neighbours
-pub weaker_long : (decay : Float) (row : List ℕ) (w : List Float) → length (foldl (weaker decay) w row) ≡ length w
-weaker_long decay [] w = refl
-weaker_long decay (u ∷ row) w = weaker_long decay row (weaker decay w u) ∙ length-set w u (max_of (sub binary64 (get_or w u nan) decay) zero_f)
-
 pub weaker_more : (decay : Float) (row : List ℕ) (w₀ w : List Float) (k u : ℕ) (x : Float) → k < length row → w ≡ foldl (weaker decay) w₀ (take k row)
     → u ≡ get_or row k 0 → x ≡ max_of (sub binary64 (get_or w u nan) decay) zero_f → set w u x ≡ foldl (weaker decay) w₀ (take (k + 1) row)
 weaker_more decay row w₀ w k u x l e eu ex =

@@ -1,38 +1,37 @@
 // One election of VoteRank, over abilities at the front of the floats and votes behind them: the votes, the first highest, the elected's neighbours.
 #![tactic(auto)]
 
-ghost use Rattle.std.specs.Prelude.{◌≡◌, cond, ◌+◌, ◌*◌, ◌-◌, ◌≤◌, ◌<◌, length, get_or};
-ghost use mathlib.Core.List.{foldl};
+ghost use Rattle.std.specs.Prelude.{◌≡◌, ◌+◌, ◌*◌, ◌-◌, ◌≤◌, ◌<◌, length, get_or};
 ghost use Rattle.std.specs.Float.{nan};
-ghost use Rattle.std.specs.Float.Ieee.{lt};
-ghost use Rattle.rows.specs.Rows.{row_at};
-ghost use Rattle.polls.specs.Votes.{first_highest, weaker};
+ghost use Rattle.graph.specs.Given.{of_graph, of_edges};
+ghost use Rattle.polls.specs.Votes.{first_highest};
 ghost use Rattle.polls.specs.Steps.{VotePre, voted, TallyPre, CountPre, Tallied, SilencePre, Silenced, WeakenPre, weakened};
 
+use graph::Graph;
+
 // The votes of all edges, in list order, from the abilities at the front of w to the places behind them.
-pub fn tally(nodes: usize, directed: bool, from: &[u32], to: &[u32], weight: &[f64], w: &mut [f64])
-    requires { TallyPre nodes from.now to.now weight.now w.old }
-    ensures { Tallied nodes directed from.now to.now weight.now w.old w.new }
+pub fn tally(graph: Graph<'_>, w: &mut [f64])
+    requires { of_edges TallyPre graph w.old }
+    ensures { of_graph Tallied graph.entry w.old w.new }
 {
-    regions::fillf(w, nodes, nodes, 0.0);
-    count_votes(nodes, directed, from, to, weight, w);
+    regions::fill(w, graph.nodes, graph.nodes, 0.0);
+    count_votes(graph, w);
 }
 
-fn count_votes(
-    nodes: usize,
-    directed: bool,
-    from: &[u32],
-    to: &[u32],
-    weight: &[f64],
-    w: &mut [f64],
-)
-    requires { CountPre nodes from.now to.now weight.now w.old }
-    ensures { Tallied nodes directed from.now to.now weight.now w.old w.new }
+// Adds up the votes of the edges, where there are none yet.
+fn count_votes(graph: Graph<'_>, w: &mut [f64])
+    requires { of_edges CountPre graph w.old }
+    ensures { of_graph Tallied graph.entry w.old w.new }
 {
-    let mut i = 0;
-    while i < from.len() {
+    let Graph {
+        nodes,
+        directed,
+        from,
+        to,
+        ..
+    } = graph;
+    for i in 0..from.len() {
         vote(nodes, directed, from[i] as usize, to[i] as usize, w);
-        i += 1;
     }
 }
 
@@ -41,22 +40,19 @@ fn vote(nodes: usize, directed: bool, f: usize, t: usize, w: &mut [f64])
     requires { VotePre nodes f t w.old }
     ensures { w.new ≡ voted nodes directed f t w.old }
 {
-    w[nodes + f] = w[nodes + f] + w[t];
-    if directed {
-        return;
+    w[nodes + f] += w[t];
+    if !directed {
+        w[nodes + t] += w[f];
     }
-    w[nodes + t] = w[nodes + t] + w[f];
 }
 
-// The first k of the elected score 0.
-pub fn silence(nodes: usize, k: usize, elected: &[u32], w: &mut [f64])
-    requires { SilencePre nodes k elected.now w.old }
-    ensures { Silenced nodes k elected.now w.old w.new }
+// The elected score 0.
+pub fn silence(nodes: usize, elected: &[u32], w: &mut [f64])
+    requires { SilencePre nodes (length elected.now) elected.now w.old }
+    ensures { Silenced nodes (length elected.now) elected.now w.old w.new }
 {
-    let mut i = 0;
-    while i < k {
-        w[nodes + elected[i] as usize] = 0.0;
-        i += 1;
+    for v in elected {
+        w[nodes + *v as usize] = 0.0;
     }
 }
 
@@ -66,23 +62,12 @@ pub fn first_highest(nodes: usize, w: &[f64]) -> usize
     ensures { (result < nodes) × (result ≡ first_highest (λ v. get_or w.now (nodes + v) nan) (nodes - 1)) }
 {
     let mut best = 0;
-    let mut v = 0;
-    while v < nodes - 1 {
-        v += 1;
-        best = higher(nodes, best, v, w);
+    for v in 1..nodes {
+        if w[nodes + best] < w[nodes + v] {
+            best = v;
+        }
     }
     best
-}
-
-// v if its score is above that of b.
-fn higher(nodes: usize, b: usize, v: usize, w: &[f64]) -> usize
-    requires { (b < nodes) × (v < nodes) × (2 * nodes ≤ length w.now) }
-    ensures { result ≡ cond (lt (get_or w.now (nodes + b) nan) (get_or w.now (nodes + v) nan)) v b }
-{
-    if w[nodes + b] < w[nodes + v] {
-        return v;
-    }
-    b
 }
 
 // v is elected: its ability becomes 0, and each of its neighbour entries loses the decay, not below 0.
@@ -91,18 +76,8 @@ pub fn weaken(nodes: usize, decay: f64, v: usize, rows: &[u32], w: &mut [f64])
     ensures { w.new ≡ weakened nodes decay v rows.now w.old }
 {
     w[v] = 0.0;
-    lose(nodes, decay, v, rows, w);
-}
-
-fn lose(nodes: usize, decay: f64, v: usize, rows: &[u32], w: &mut [f64])
-    requires { WeakenPre nodes v rows.now w.old }
-    ensures { w.new ≡ foldl (weaker decay) w.old (row_at nodes rows.now v) }
-{
-    let entries = rows::row_length(nodes, rows, v);
-    let mut k = 0;
-    while k < entries {
-        let u = rows::entry(nodes, rows, v, k);
+    for entry in rows::row(nodes, rows, v) {
+        let u = *entry as usize;
         w[u] = roots::max(w[u] - decay, 0.0);
-        k += 1;
     }
 }

@@ -97,7 +97,7 @@ module _ {g : Graph} {s D Q head : ℕ} {w₀ : List ℕ} {u further : ℕ} {w :
             c = set N.c (get_or w p 0) N.ways;
             limit = N.limit;
             ways = N.ways;
-            scan = scan_step N.scan before w' (set N.c (get_or w p 0) N.ways) First (record { was = eqb-true _ _ b; stored = e; counted = refl }) r one refl;
+            scan = scan_step N.scan before w' (set N.c (get_or w p 0) N.ways) First (record { was = eqb-true _ _ b; stored = e; counted = refl }) r one;
             near = λ most l h. first_near b e most l (N.near most l h);
           }
 
@@ -119,7 +119,7 @@ module _ {g : Graph} {s D Q head : ℕ} {w₀ : List ℕ} {u further : ℕ} {w :
               limit = more;
               ways = N.ways;
               scan = scan_step (scan_more more (omega arith) N.scan) before w' (set N.c (get_or w p 0) (get_or N.c (get_or w p 0) 0 + N.ways)) Again
-                  (record { was = e; known = λ z. eqb-false _ _ b (e ∙ z); same = same; counted = refl; within = omega arith }) r none refl;
+                  (record { was = e; known = λ z. eqb-false _ _ b (e ∙ z); same = same; counted = refl; within = omega arith }) r none;
               near = λ most l h. subst (λ (t : List ℕ). Near g.nodes most D t) (sym same) (N.near most l h);
             }
 
@@ -131,7 +131,7 @@ module _ {g : Graph} {s D Q head : ℕ} {w₀ : List ℕ} {u further : ℕ} {w :
               c = N.c;
               limit = N.limit;
               ways = N.ways;
-              scan = scan_step N.scan before w' N.c Other (record { known = eqb-false _ _ b; other = d; same = same; counts = refl }) r none refl;
+              scan = scan_step N.scan before w' N.c Other (record { known = eqb-false _ _ b; other = d; same = same; counts = refl }) r none;
               near = λ most l h. subst (λ (t : List ℕ). Near g.nodes most D t) (sym same) (N.near most l h);
             }
 

@@ -12,7 +12,7 @@ use lib.ListN.{length, get_or, set, replicate, length-replicate, get_or-replicat
 use Rattle.regions.specs.Region.{list_of, Frame2}
 use Rattle.regions.proofs.Fronts.{list_long, hit, miss}
 use Rattle.regions.proofs.Parts.{list_at_lem}
-use Rattle.regions.proofs.Frames.{frame2_none, frame2_then}
+use Rattle.regions.proofs.Frames.{frame2_then}
 use Rattle.graph.specs.Edges.{Edge, Graph, entries}
 use Rattle.hops.specs.Sum.{sum_over, below, only_if, same, times}
 use Rattle.hops.specs.Hops.{unreached, walks, dist, Valid}
@@ -24,7 +24,6 @@ use Rattle.hops.proofs.Partial.{within, label_dist}
 use Rattle.hops.proofs.Search.{get_or_mem, mem_get_or, queue_long, tail_most, next_node, finish, first, begun_kept}
 use Rattle.reach.specs.Reach.{in_reach, others_in}
 use Rattle.reach.specs.Search.{Walk, Near, SpreadPre, SpreadPost, Within, Ground}
-use Rattle.reach.proofs.Walks.{starts}
 
 -- ---- the test
 
@@ -150,10 +149,6 @@ pub record Going (g : Graph) (limit s D Q : ℕ) (w₀ w : List ℕ) (head tail 
   pub near : Near g.nodes limit D w
   pub going : head < tail → Walk g s w D Q head tail (get_or w (Q + head) 0) 0
   pub over : tail ≤ head → Within g limit s w D Q tail
-
-pub going_none : {g : Graph} {limit s D Q : ℕ} {w : List ℕ} → Walk g s w D Q 0 1 (get_or w (Q + 0) 0) 0 → Near g.nodes limit D w → Going g limit s D Q w w 0 1
-going_none {g} {limit} {s} {D} {Q} {w} W near =
-    record { most = (starts W).most; kept = frame2_none w D g.nodes Q g.nodes; near = near; going = λ l. W; over = λ l. absurd (omega arith) }
 
 module _ {n limit D Q : ℕ} (directed : Bool) (es : List Edge) (s : ℕ) {w₀ w : List ℕ} {head tail : ℕ} (R : Going (graph_of n directed es) limit s D Q w₀ w head tail) (l : head < tail) where
   pub spread_pre : (further : ℕ) → further ≡ get_or w (D + get_or w (Q + head) 0) 0 + 1 → SpreadPre n (get_or w (Q + head) 0) further D Q tail w

@@ -3,28 +3,29 @@
 
 ghost use Rattle.reach.specs.Search.{MeetPre, Met, SpreadPre, SpreadPost, WithinPre, WithinPost, FromPre, FromPost};
 
+use hops::Places;
+
 // How many nodes are within the limit of `start`, itself counted: they stand in the queue.
-pub fn reach_from(
-    nodes: usize,
-    limit: u64,
-    start: usize,
-    distances: usize,
-    queue: usize,
-    w: &mut [u32],
-) -> usize
-    requires { FromPre nodes start distances queue w.old }
-    ensures { FromPost nodes limit start distances queue w.old w.new result }
+pub fn reach_from(bounded: Places, start: usize, w: &mut [u32]) -> usize
+    requires { FromPre bounded.nodes start bounded.distances bounded.queue w.old }
+    ensures { FromPost bounded.nodes bounded.limit start bounded.distances bounded.queue w.old w.new result }
 {
-    w[distances + start] = 0;
-    w[queue] = start as u32;
-    reach_within(nodes, limit, distances, queue, w)
+    w[bounded.distances + start] = 0;
+    w[bounded.queue] = start as u32;
+    reach_within(bounded, w)
 }
 
 // Node by node of the queue, until one is as far as the limit or nothing new is reached.
-fn reach_within(nodes: usize, limit: u64, distances: usize, queue: usize, w: &mut [u32]) -> usize
-    requires { WithinPre nodes limit distances queue w.old }
-    ensures { WithinPost nodes limit distances queue w.old w.new result }
+fn reach_within(bounded: Places, w: &mut [u32]) -> usize
+    requires { WithinPre bounded.nodes bounded.limit bounded.distances bounded.queue w.old }
+    ensures { WithinPost bounded.nodes bounded.limit bounded.distances bounded.queue w.old w.new result }
 {
+    let Places {
+        limit,
+        distances,
+        queue,
+        ..
+    } = bounded;
     let mut head = 0;
     let mut tail = 1;
     while head < tail {
@@ -33,33 +34,27 @@ fn reach_within(nodes: usize, limit: u64, distances: usize, queue: usize, w: &mu
         if limit <= far as u64 {
             return tail;
         }
-        tail = spread(nodes, u, far + 1, distances, queue, tail, w);
+        tail = spread(bounded, u, far + 1, tail, w);
         head += 1;
     }
     tail
 }
 
 // The entries of u: those without a distance are `further` hops away, and join the queue.
-fn spread(
-    nodes: usize,
-    u: usize,
-    further: u32,
-    distances: usize,
-    queue: usize,
-    tail: usize,
-    w: &mut [u32],
-) -> usize
-    requires { SpreadPre nodes u further distances queue tail w.old }
-    ensures { SpreadPost nodes u further distances queue tail w.old w.new result }
+fn spread(bounded: Places, u: usize, further: u32, tail: usize, w: &mut [u32]) -> usize
+    requires { SpreadPre bounded.nodes u further bounded.distances bounded.queue tail w.old }
+    ensures { SpreadPost bounded.nodes u further bounded.distances bounded.queue tail w.old w.new result }
 {
+    let Places {
+        nodes,
+        distances,
+        queue,
+        ..
+    } = bounded;
     let rows = nodes + 1;
-    let end = rows + w[u + 1] as usize;
-    let mut p = rows + w[u] as usize;
     let mut place = queue + tail;
-    while p < end {
-        let more = meet(w[p], further, distances, place, w);
-        place = place + more;
-        p += 1;
+    for p in rows + w[u] as usize..rows + w[u + 1] as usize {
+        place += meet(w[p], further, distances, place, w);
     }
     place - queue
 }

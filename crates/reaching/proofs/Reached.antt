@@ -1,30 +1,31 @@
 -- How `local_reaching` ends: refused, or with what its steps leave. Assumes nothing.
-use Rattle.std.proofs.Common.{◌≡◌, ℕ, ◌+◌, ◌≤◌, Bool, true, List, length, ap, ◌∙◌, arith}
+use Rattle.std.proofs.Common.{◌≡◌, ℕ, ◌+◌, ◌≤◌, List, length, ap, ◌∙◌, arith}
 use lib.Ieee.{Float}
 use Rattle.regions.specs.Region.{over, list_of, Filled}
 use Rattle.regions.proofs.Fronts.{front_none, front_wide, front_then}
 use Rattle.regions.proofs.Frames.{frame_front, frame2_front}
 use Rattle.graph.specs.declared.Fronts.{Fronts}
-use Rattle.answers.specs.declared.Answer.{Answer}
-use Rattle.answers.specs.Answers.{done, refused_with, refuses}
+use Rattle.std.specs.Prelude.{Result, Err}
+use Rattle.answers.specs.declared.Refusal.{Refusal}
+use Rattle.answers.specs.Answers.{done, said_by}
 use Rattle.graph.specs.Given.{Given, graph_in, edges_in}
 use Rattle.graph.specs.Layout.{distances_at, queue_at}
 use Rattle.graph.specs.Left.{left, wiped, untouched, Wiped}
 use Rattle.graph.specs.Pres.{Passed, Roomy}
-use Rattle.graph.specs.Refusals.{first_refusal}
-use Rattle.graph.proofs.Left.{refused, went_on}
+use Rattle.graph.proofs.Left.{went_on}
 use Rattle.rows.specs.Rows.{Built}
 use Rattle.hops.specs.Hops.{unreached}
 use Rattle.hops.proofs.Search.{rows_after}
 use Rattle.hops.proofs.Workspace.{valid, rows_of}
-use Rattle.laplacian.proofs.Steps.{score_tests, ready, fits, fronts, Used, wipe_pre, wiped_is}
+use Rattle.laplacian.proofs.Steps.{Lengths, score_tests, checked, score_refused, ready, fits, fronts, Used, wipe_pre, wiped_is}
 use Rattle.reach.specs.Search.{Ground}
 use Rattle.reaching.specs.Reaching.{reach_score, reaching_outcome}
 use Rattle.reaching.specs.Starts.{AllPre, AllPost}
 
-pub turned_away : (limit : ℕ) (g : Given (List Float)) {a : Answer} {b : Bool} → a ≡ first_refusal (score_tests g) → b ≡ refuses a → b ≡ true → untouched g (refused_with a) ≡ reaching_outcome limit g
+pub turned_away : (limit : ℕ) (g : Given (List Float)) {l : Fronts} {x : Result (Unit {0}) Refusal} {r : Refusal}
+    → Lengths g l → x ≡ Err r → Err r ≡ checked g l → untouched g (said_by x) ≡ reaching_outcome limit g
 unfolding reaching_outcome
-turned_away limit g ea eb et = refused g (score_tests g) (wiped g (done (tt {0})) (over (list_of (reach_score (graph_in g) limit) g.nodes) g.results)) ea eb et
+turned_away limit g h ex e = score_refused g (wiped g (done tt) (over (list_of (reach_score (graph_in g) limit) g.nodes) g.results)) h ex e
 
 module _ (limit : ℕ) (g : Given (List Float)) (p : Passed (score_tests g)) where
   abbrev n : ℕ

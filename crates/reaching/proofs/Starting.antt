@@ -10,8 +10,8 @@ use Rattle.reach.specs.Reach.{others_in}
 use Rattle.reach.specs.Search.{Within, Ground, FromPre, FromPost}
 use Rattle.reach.proofs.Within.{one_more}
 use Rattle.reaching.specs.Reaching.{share_of, reach_score}
-use Rattle.reaching.specs.Starts.{UndoPre, Undone}
-use Rattle.reaching.proofs.Undoing.{undo_pre, undone_kept, ground_back}
+use Rattle.reaching.specs.Starts.{Undone}
+use Rattle.reaching.proofs.Undoing.{undone_kept, ground_back}
 
 -- the scores of the first s nodes stand, and the workspace is ready for the next search
 pub record Scoring (g : Graph) (limit D Q : ℕ) (scores₀ : List Float) (w : List ℕ) (scores : List Float) (s : ℕ) : Type 0 where
@@ -28,9 +28,6 @@ module _ {n limit D Q s : ℕ} (directed : Bool) (es : List Edge) {scores₀ : L
   module _ {w1 : List ℕ} {r : ℕ} (P : FromPost n limit s D Q w w1 r) where
     W : Within (graph_of n directed es) limit s w1 D Q r
     W = P.reached directed es R.ground
-
-    pub undo_this : UndoPre r D Q w1
-    undo_this = undo_pre R.ground P.kept W
 
     pub counted : r ≡ 1 + others_in (graph_of n directed es) limit s
     counted = one_more R.ground.valid l limit W

@@ -1,19 +1,19 @@
 -- The numbers in front of a record, the parts of its line, and what reading it leaves. Definitions only.
-use Rattle.std.specs.Prelude.{◌≡◌, Bool, true, false, cond, ℕ, ◌+◌, ◌*◌, ◌≤◌, length, take, drop, ltb}
-use mathlib.Core.List.{List, ◌++◌, foldl}
+use Rattle.std.specs.Prelude.{◌≡◌, Bool, true, false, cond, ℕ, ◌+◌, ◌*◌, ◌≤◌, List, [], ◌∷◌, ◌++◌, length, take, drop, ltb, Option, Some, None, option_and_then}
 use Rattle.text.specs.Text.{digit_of}
 
--- What stands for no number: more than any record has.
-abbrev pub fault : ℕ
-fault = 99999
+-- A number and one decimal digit more; none if the byte is no such digit or the number has more than four digits.
+unfoldable pub with_digit : ℕ → ℕ → Option ℕ
+with_digit n b = option_and_then (λ d. cond (ltb 9 d) None (cond (ltb 9999 n) None (Some (n * 10 + d)))) (digit_of b)
 
--- A number and one decimal digit more; a byte that is no such digit gives `fault`, and so does a number of more than four digits.
-unfoldable pub with_digit : ℕ → ℕ → ℕ
-with_digit n b = cond (ltb 9 (digit_of b)) fault (cond (ltb 9999 n) fault (n * 10 + digit_of b))
+-- The number that bytes spell after a number, most significant digit first; none if there is none for one of them.
+unfoldable pub number_from : ℕ → List ℕ → Option ℕ
+number_from n [] = Some n
+number_from n (b ∷ bytes) = option_and_then (λ m. number_from m bytes) (with_digit n b)
 
--- The number that bytes spell, most significant digit first.
-abbrev pub number_in : List ℕ → ℕ
-number_in bytes = foldl with_digit 0 bytes
+-- The number that bytes spell.
+abbrev pub number_in : List ℕ → Option ℕ
+number_in bytes = number_from 0 bytes
 
 -- So many bytes of a line from a place on; the whole line where it ends before them.
 unfoldable pub part_of : List ℕ → ℕ → ℕ → List ℕ

@@ -6,37 +6,32 @@ ghost use Rattle.records.specs.Records.{number_in, with_digit, part_of, Read};
 
 use std::io;
 
-// More than any record has; it stands for what is no number.
-pub const FAULT: usize = 99999;
-
-// The number that digits spell; FAULT for what is no number.
-pub fn number(digits: &[u8]) -> usize
+// The number that digits spell; none if a byte is no digit or there are too many.
+#[tactic(auto, using(crate::proofs::Records::digit_steps))]
+pub fn number(digits: &[u8]) -> Option<usize>
     ensures { result ≡ number_in digits.now }
 {
     let mut n = 0;
-    let mut i = 0;
-    while i < digits.len() {
-        n = with_digit(n, digits[i]);
-        i += 1;
+    for b in digits {
+        n = with_digit(n, *b)?;
     }
-    n
+    Some(n)
 }
 
-// A number and one digit more; what is no digit or too long gives FAULT, and FAULT stays.
-fn with_digit(n: usize, b: u8) -> usize
+// A number and one decimal digit more.
+#[tactic(auto, unfolding(crate::specs::Records::with_digit))]
+fn with_digit(n: usize, b: u8) -> Option<usize>
     ensures { result ≡ with_digit n b }
 {
-    let d = text::digit(b) as usize;
-    if 9 < d {
-        return FAULT;
+    let d = text::digit(b)? as usize;
+    if 9 < d || 9999 < n {
+        None
+    } else {
+        Some(n * 10 + d)
     }
-    if 9999 < n {
-        return FAULT;
-    }
-    n * 10 + d
 }
 
-// Reads n bytes, if there is room for them and they are there.
+// Reads n bytes to the front of a line, if there is room for them and they are there.
 pub fn is_read<R: io::Read>(input: &mut R, n: usize, line: &mut [u8]) -> bool
     ensures { Read result n line.old line.new }
 {
@@ -65,14 +60,11 @@ pub fn read_full<R: io::Read>(input: &mut R, line: &mut [u8]) -> usize
 }
 
 // So many bytes from a place on; the whole line where there are not so many.
+#[tactic(auto, unfolding(crate::specs::Records::part_of))]
 pub fn part(line: &[u8], at: usize, n: usize) -> &[u8]
     ensures { result.now ≡ part_of line.now at n }
 {
-    if line.len() < at {
-        return line;
-    }
-    if line.len() - at < n {
-        return line;
-    }
-    &line[at..at + n]
+    line.get(at..)
+        .and_then(|rest| rest.get(..n))
+        .unwrap_or(line)
 }

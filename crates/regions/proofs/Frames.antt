@@ -2,11 +2,11 @@
 use mathlib.Core.Path.{◌≡◌, refl, sym, ◌∙◌}
 use mathlib.Core.Logic.{⊎_elim}
 use mathlib.Core.List.{List}
-use Prim.Native.Nat.{ℕ, ◌+◌, ◌-◌, ◌≤◌, ◌<◌}
+use Prim.Native.Nat.{ℕ, ◌+◌, ◌≤◌, ◌<◌}
 use native.Mathlib.Omega.{arith}
 use lib.ListN.{length, get_or, set, length-set}
 use lib.Seq.{ext_get_or, get_or-set_same, get_or-set_other}
-use Rattle.regions.specs.Region.{list_of, part, Front, Frame, Frame2, Filled, Copied, Apart}
+use Rattle.regions.specs.Region.{list_of, part, Front, Frame, Frame2, Filled, Copied}
 use Rattle.regions.proofs.Cases.{same_or_not, below_or_not}
 use Rattle.regions.proofs.Fronts.{miss_d, get_d_any, same_any}
 use Rattle.regions.proofs.Parts.{part_at, part_is, part_long}
@@ -90,16 +90,6 @@ store_more P d w b i v l all here k h =
     (same_or_not k i)
 
 -- ---- a fill, one place after the other
-pub filled_none : {A : Type 0} (w : List A) (b : ℕ) (v : A) → Filled w b 0 v w
-filled_none w b v = record { frame = frame_none w b 0; at = λ d i h. absurd (omega arith) }
-
-pub filled_more : {A : Type 0} {w w' : List A} {b i : ℕ} {v : A} → Filled w b i v w' → b + i < length w → Filled w b (i + 1) v (set w' (b + i) v)
-filled_more {A} {w} {w'} {b} {i} {v} f l =
-    let p : b + i < length w' = omega (arith, f.frame.long) in
-    record {
-      frame = frame_set (b + i) v (frame_wide b (i + 1) (omega arith) (omega arith) f.frame) (omega arith) (omega arith);
-      at = λ d. store_more (λ _ x. x ≡ v) d w' b i v p (f.at d) refl;
-    }
 
 pub filled_part : {A : Type 0} {w w' : List A} {b n : ℕ} {v : A} → Filled w b n v w' → b + n ≤ length w → part w' b n ≡ list_of (λ _. v) n
 filled_part {A} {w} {w'} {b} {n} {v} f l = part_is v w' b n (λ _. v) (omega (arith, f.frame.long)) (f.at v)
@@ -115,9 +105,3 @@ copied_more {A} {s} {w} {w'} {from} {b} {i} d v f m l e =
       frame = frame_set (b + i) v (frame_wide b (i + 1) (omega arith) (omega arith) f.frame) (omega arith) (omega arith);
       at = λ z. store_more (λ k x. x ≡ get_or s (from + k) z) z w' b i v p (f.at z) (e ∙ get_d_any s (from + i) d z m);
     }
-
--- inside one slice: the next source place has not been written
-pub copied_source : {A : Type 0} {w w' : List A} {from b i len : ℕ} (d : A) → Apart w from b len → i < len → Copied w from w b i w' → get_or w' (from + i) d ≡ get_or w (from + i) d
-copied_source {A} {w} {w'} {from} {b} {i} {len} d a l f =
-    f.frame.rest d (from + i)
-    (λ p q. let e : from + i ≡ b + (from + i - b) = omega arith in a.apart i (from + i - b) l (omega arith) e)

@@ -3,7 +3,6 @@
 #![tactic(auto)]
 
 use job::OUTPUT;
-use ran::Ran;
 use std::io;
 
 // The lengths in front of a record: five digits, a space, five digits, a newline.
@@ -20,96 +19,78 @@ struct Tally {
     differ: u64,
 }
 
-// What a record leaves.
-#[derive(Clone, Copy)]
-enum Step {
-    Again(Tally),
-    Ended,
-}
-
 fn main(rt: HostRuntime) -> io::Result<()> {
     let tally = replay(&rt, &mut rt.stdin())?;
-    print(&rt, b"jobs ")?;
-    println!(rt; "{} records, {} differ", tally.jobs, tally.differ)
+    println!(rt; "jobs {} records, {} differ", tally.jobs, tally.differ)
 }
 
-fn print(rt: &impl Print, word: &[u8]) -> io::Result<()> {
-    rt.write_all(word)
-}
-
-// Every record of the list. Nothing says that an input ends, so the turns are counted down, from a number that no run uses up.
+// Every record of the list. Nothing says that an input ends, so the turns are counted, up to a number that no run reaches.
 fn replay<R: io::Read>(rt: &impl Print, input: &mut R) -> io::Result<Tally> {
     let mut tally = Tally { jobs: 0, differ: 0 };
-    let mut turns = u64::MAX;
-    while 0 < turns {
-        let Step::Again(after) = tally.next(rt, input)? else {
+    for _ in 0..u64::MAX {
+        if tally.ends(rt, input)? {
             return Ok(tally);
-        };
-        tally = after;
-        turns -= 1;
+        }
     }
     Ok(tally)
 }
 
 impl Tally {
-    // The next record, read and counted.
-    fn next<R: io::Read>(self, rt: &impl Print, input: &mut R) -> io::Result<Step> {
+    // The next record, read and counted; true where the list ends.
+    fn ends<R: io::Read>(&mut self, rt: &impl Print, input: &mut R) -> io::Result<bool> {
         let mut frame = [0u8; FRAME];
-        let got = records::read_full(input, &mut frame);
-        if got == 0 {
-            return Ok(Step::Ended);
+        if records::read_full(input, &mut frame) == 0 {
+            return Ok(true);
         }
-        let asked = records::number(records::part(&frame, 0, 5));
-        let told = records::number(records::part(&frame, 6, 5));
-        self.with_record(rt, input, asked, told)
-    }
-
-    // A text of so many bytes and an answer of so many.
-    fn with_record<R: io::Read>(
-        self,
-        rt: &impl Print,
-        input: &mut R,
-        asked: usize,
-        told: usize,
-    ) -> io::Result<Step> {
         let mut text = [0u8; TEXT];
         let mut answer = [0u8; ANSWER];
-        if records::is_read(input, asked, &mut text) {
-            if records::is_read(input, told, &mut answer) {
-                return Ok(Step::Again(self.with(
-                    records::part(&text, 0, asked),
-                    records::part(&answer, 0, told),
-                )));
-            }
-        }
-        print(rt, b"a record that is none\n")?;
-        Ok(Step::Ended)
+        let Some(asked) = read_part(input, records::part(&frame, 0, 5), &mut text) else {
+            return none(rt);
+        };
+        let Some(told) = read_part(input, records::part(&frame, 6, 5), &mut answer) else {
+            return none(rt);
+        };
+        self.count(asked, told);
+        Ok(false)
     }
 
-    // A comment has no answer.
-    fn with(self, asked: &[u8], told: &[u8]) -> Tally {
-        if told.len() == 0 {
-            return self;
+    // One more job, and whether it differs; a comment has no answer.
+    fn count(&mut self, asked: &[u8], told: &[u8]) {
+        if told.is_empty() {
+            return;
         }
-        let jobs = std::num::wrapping_add_u64(self.jobs, 1);
-        if is_told(asked, told) {
-            return Tally {
-                jobs,
-                differ: self.differ,
-            };
-        }
-        Tally {
-            jobs,
-            differ: std::num::wrapping_add_u64(self.differ, 1),
+        self.jobs = self.jobs.wrapping_add(1);
+        if !is_told(asked, told) {
+            self.differ = self.differ.wrapping_add(1);
         }
     }
+}
+
+// The bytes, as many as digits say, that are read to the front of a line, if there is room for them and they are there.
+fn read_part<'a, R: io::Read>(
+    input: &mut R,
+    digits: &[u8],
+    line: &'a mut [u8],
+) -> Option<&'a [u8]> {
+    let n = records::number(digits)?;
+    if records::is_read(input, n, line) {
+        Some(records::part(line, 0, n))
+    } else {
+        None
+    }
+}
+
+// A record that cannot be read ends the list.
+fn none(rt: &impl Print) -> io::Result<bool> {
+    print!(rt; "a record that is none\n")?;
+    Ok(true)
 }
 
 // Whether the program answers a text so.
 fn is_told(asked: &[u8], told: &[u8]) -> bool {
     let mut output = [0u8; OUTPUT];
     match job::run(asked, &mut output) {
-        Ran::Written(n) => text::is_word(told, records::part(&output, 0, n)),
-        Ran::Refused(_) => false,
+        Ok(n) => told == records::part(&output, 0, n),
+        Err(_) => false,
     }
 }

@@ -1,30 +1,8 @@
 -- Laws of when a record can be replayed and of what the replay answers. Assumes nothing.
-use Rattle.std.proofs.Common.{◌≡◌, ℕ, ◌+◌, ◌<◌, ◌≤◌, min, Bool, true, false, cond, not, ◌&&◌, ◌||◌, eqb, ltb, List, [], ◌∷◌, length, get_or, take, drop, sym, refl, ap, ◌∙◌, add-one, arith, drop_of_length-le, length-take, drop-cons, ltb-false, le-ltb, lt-ltb, eq-eqb, ne_eqb}
+use Rattle.std.proofs.Common.{◌≡◌, ℕ, ◌+◌, ◌<◌, ◌≤◌, min, Bool, true, false, cond, not, ◌&&◌, ◌||◌, eqb, ltb, List, [], ◌∷◌, length, get_or, drop, sym, refl, ap, ◌∙◌, add-one, arith, drop_of_length-le, drop-cons, ltb-false, le-ltb, lt-ltb}
 use Rattle.words.specs.declared.Places.{Places}
 use Rattle.words.specs.Words.{word_at, places_of}
-use Rattle.lent.specs.declared.Left.{Left}
-use Rattle.lent.specs.Said.{NoRounds, NoElection}
-use Rattle.replay_calls.specs.Record.{longer_from, is_longer, edges_within, fits_in, has_rounds, counts_paths, Reports, Compares, Answers, Replays}
-
--- What the calls of each kind report; w is the call's number, a and b are what was said of it.
-module _ (call w : ℕ) (l : Left) (same : w ≡ call) (a : Bool) (rounds : a ≡ has_rounds w) where
-  pub by_rounds : a ≡ true → NoElection l → Reports call l
-  by_rounds t n =
-      let h : has_rounds call ≡ true = cc in
-      record { rounds = rw h tt; election = rw h n }
-
-  module _ (b : Bool) (paths : b ≡ counts_paths w) where
-    pub by_paths : a ≡ false → b ≡ true → NoRounds l → NoElection l → Reports call l
-    by_paths t u n m =
-        let h : has_rounds call ≡ false = cc in
-        let k : counts_paths call ≡ true = cc in
-        record { rounds = rw h n; election = rw (h, k) m }
-
-    pub by_walk : a ≡ false → b ≡ false → NoRounds l → Reports call l
-    by_walk t u n =
-        let h : has_rounds call ≡ false = cc in
-        let k : counts_paths call ≡ false = cc in
-        record { rounds = rw h n; election = rw (h, k) tt }
+use Rattle.replay_calls.specs.Record.{longer_from, is_longer, edges_within, fits_in, Compares, Answers, Replays}
 
 -- The limits that are left, after one more.
 module _ (ws : List ℕ) (place : ℕ) (most : List ℕ) (i n : ℕ) (same : n ≡ word_at ws place i) where
@@ -42,27 +20,6 @@ module _ (ws : List ℕ) (place : ℕ) (most : List ℕ) (i n : ℕ) (same : n �
 pub no_limit : (ws : List ℕ) (place : ℕ) (most : List ℕ) (i : ℕ) → length most ≤ i → longer_from ws place i (drop i most) ≡ false
 unfolding longer_from
 no_limit ws place most i h = rw (drop_of_length-le most h)
-
--- The tests of a record, one after the other.
-module _ (ws : List ℕ) (p : Places) where
-  pub other_end : (p.end ≡ length ws → ⊥) → false ≡ fits_in ws p
-  unfolding fits_in
-  other_end n = rw (ne_eqb p.end (length ws) n)
-
-  module _ (end : p.end ≡ length ws) (a : Bool) (edges : a ≡ is_longer ws 3 (32769 ∷ 32769 ∷ 32769 ∷ [])) where
-    pub long_edges : a ≡ true → false ≡ fits_in ws p
-    unfolding fits_in
-    long_edges t = rw (eq-eqb p.end (length ws) end, ← edges, t)
-
-    module _ (short : a ≡ false) (n : ℕ) (same : n ≡ word_at ws p.own 5) where
-      pub long_vector : 8 < n → false ≡ fits_in ws p
-      unfolding fits_in
-      long_vector h = rw (eq-eqb p.end (length ws) end, ← edges, short, ← same, lt-ltb 8 n h)
-
-      pub rest :
-          n ≤ 8 → (b : Bool) → b ≡ is_longer ws p.lengths (160 ∷ 160 ∷ 160 ∷ 160 ∷ 2200 ∷ 220 ∷ 1300 ∷ []) → not b ≡ fits_in ws p
-      unfolding fits_in
-      rest h b e = rw (eq-eqb p.end (length ws) end, ← edges, short, ← same, le-ltb 8 n h, ← e)
 
 -- The first of two tests did not hold.
 neither : (a b : Bool) → (a || b) ≡ false → a ≡ false
@@ -95,10 +52,6 @@ record_edges ws p f e t =
 pub moved : {r : Bool} {ws : List ℕ} {p q : Places} {m n : ℕ} → Compares r ws p m → p ≡ q → m ≡ n → Compares r ws q n
 moved k same same2 = record { left = k.left; reports = k.reports; finds = rw (same, same2) at k.finds }
 
--- The front of a slice has as many slots as are asked for, or as there are.
-pub front_length : (slots front : List ℕ) (n m : ℕ) → front ≡ take n slots → n ≡ m → length front ≡ min m (length slots)
-front_length slots front n m e same = rw (e, same, length-take m slots)
-
 -- What is answered of a record that fits.
 pub replayed :
     (r : Bool) (ws : List ℕ) (p : Places) (f : Bool) (n : ℕ) → p ≡ places_of ws → f ≡ fits_in ws p → f ≡ true → word_at ws 3 0 ≤ n → Compares r ws p (min (word_at ws 3 0) n) → Replays r ws
@@ -108,10 +61,5 @@ replayed r ws p f n same e t h k = answers _ (sym (e ∙ ap (fits_in ws) same) �
     answers true u c = c
     answers false u c = absurd (omega (arith, ap {B = ℕ} (λ (x : Bool). cond x 1 0) u))
 
--- Of any other.
-pub not_replayed : (ws : List ℕ) (p : Places) (f : Bool) → p ≡ places_of ws → f ≡ fits_in ws p → f ≡ false → Replays true ws
-not_replayed ws p f same e t = answers _ (sym (e ∙ ap (fits_in ws) same) ∙ t)
-  where
-    answers : (b : Bool) → b ≡ false → Answers b true ws
-    answers true u = absurd (omega (arith, ap {B = ℕ} (λ (x : Bool). cond x 1 0) u))
-    answers false u = refl
+-- what a loop over limits asks
+pub ruleset limits = (more, no_more, no_limit)

@@ -1,10 +1,11 @@
 // A record's call, made with slices of exactly the lengths that the record gives.
-ghost use Rattle.std.specs.Prelude.{◌≡◌, ◌≤◌, min, length, take};
+ghost use Rattle.std.specs.Prelude.{◌≡◌, ◌≤◌, min, length};
 ghost use Rattle.words.specs.Words.{word_at};
 ghost use Rattle.replay_calls.specs.Record.{is_longer, fits_in, has_rounds, counts_paths, Reports, Compares, Replays};
 
+use graph::Graph;
 use lent::{FLOATS, Left, NARROW, RESULTS, WIDE};
-use words::Places;
+use words::{Call, Record};
 
 // The longest slices that a record lends; few lend more than FEW edges.
 const EDGES: usize = 32769;
@@ -13,216 +14,134 @@ const FEW: usize = 160;
 
 const VECTOR: usize = 8;
 
-// Whether something that the call says or leaves is not what the record has.
-pub fn differs(words: &[u64]) -> bool
+// Whether something that a record's call says or leaves is not what the record has.
+pub fn differs(call: Call, words: &[u64]) -> bool
     ensures { Replays result words.now }
 {
-    let p = words::find_parts(words);
-    if fits(words, p) {
-        if longer(words, 3, &[FEW, FEW, FEW]) {
-            return among_many(words, p);
-        }
-        return among_few(words, p);
-    }
-    true
-}
-
-fn among_few(words: &[u64], p: Places) -> bool
-    ensures { Compares result words.now p (min (word_at words.now 3 0) 160) }
-{
-    let mut from = [0u32; FEW];
-    let mut to = [0u32; FEW];
-    let mut weight = [0.0; FEW];
-    with_edges(words, p, &mut from, &mut to, &mut weight)
-}
-
-fn among_many(words: &[u64], p: Places) -> bool
-    ensures { Compares result words.now p (min (word_at words.now 3 0) 32769) }
-{
-    let mut from = [0u32; EDGES];
-    let mut to = [0u32; EDGES];
-    let mut weight = [0.0; EDGES];
-    with_edges(words, p, &mut from, &mut to, &mut weight)
-}
-
-// Puts the edges of the record into slices of zeros.
-fn with_edges(
-    words: &[u64],
-    p: Places,
-    from: &mut [u32],
-    to: &mut [u32],
-    weight: &mut [f64],
-) -> bool
-    ensures { Compares result words.now p (min (word_at words.now 3 0) (length from.old)) }
-{
-    put_ends(words, 7, from);
-    put_ends(words, 8, to);
-    put_weights(words, weight);
-    with_vector(words, p, from, to, weight)
-}
-
-// Puts the vector, and lends the fronts of the lengths that the record gives.
-fn with_vector(words: &[u64], p: Places, from: &[u32], to: &[u32], weight: &[f64]) -> bool
-    ensures { Compares result words.now p (min (word_at words.now 3 0) (length from.now)) }
-{
-    let mut vector = [0.0; VECTOR];
-    put_vector(words, p.vector, &mut vector);
-    leaves_other(
+    let asked = Record {
         words,
-        p,
-        front_ends(from, words::size(words, 3, 0)),
-        front_ends(to, words::size(words, 3, 1)),
-        front_floats(weight, words::size(words, 3, 2)),
-        front_floats(&vector, words::size(words, p.own, 5)),
+        parts: words::find_parts(words),
+    };
+    if !fits(asked) {
+        return true;
+    }
+    if longer(words, 3, &[FEW, FEW, FEW]) {
+        return among::<EDGES>(call, asked);
+    }
+    among::<FEW>(call, asked)
+}
+
+// Puts the edges of the record into N slots each, and its vector, and lends the fronts of the lengths that the record gives.
+fn among<const N: usize>(call: Call, asked: Record<'_>) -> bool
+    requires { N ≤ 32769 }
+    ensures { Compares result asked.entry.words.now asked.entry.parts (min (word_at asked.entry.words.now 3 0) N) }
+{
+    let words = asked.words;
+    let mut from = [0u32; N];
+    let mut to = [0u32; N];
+    let mut weight = [0.0; N];
+    put_ends(words, 7, &mut from);
+    put_ends(words, 8, &mut to);
+    put_weights(words, &mut weight);
+    let graph = Graph {
+        nodes: words::size(words, 1, 0),
+        directed: words::is_set(words, 2, 0),
+        from: words::front(&from, words::size(words, 3, 0)),
+        to: words::front(&to, words::size(words, 3, 1)),
+        weight: words::front(&weight, words::size(words, 3, 2)),
+    };
+    let vector = find_vector(asked);
+    leaves_other(
+        call,
+        asked,
+        graph,
+        words::front(&vector, words::size(words, asked.parts.own, 5)),
     )
 }
 
-// So many of the slots; all where there are not so many.
-fn front_ends(slots: &[u32], n: usize) -> &[u32]
-    ensures { result.now ≡ take n slots.now }
-{
-    if slots.len() < n {
-        return slots;
-    }
-    &slots[..n]
-}
-
-fn front_floats(slots: &[f64], n: usize) -> &[f64]
-    ensures { result.now ≡ take n slots.now }
-{
-    if slots.len() < n {
-        return slots;
-    }
-    &slots[..n]
-}
-
 // Makes the call, and compares what it says and leaves.
-fn leaves_other(
-    words: &[u64],
-    p: Places,
-    from: &[u32],
-    to: &[u32],
-    weight: &[f64],
-    vector: &[f64],
-) -> bool
-    ensures { Compares result words.now p (length from.now) }
+fn leaves_other(call: Call, asked: Record<'_>, graph: Graph<'_>, vector: &[f64]) -> bool
+    ensures { Compares result asked.entry.words.now asked.entry.parts (length graph.entry.from.now) }
 {
-    let left = make(words, p, from, to, weight, vector);
-    compared::finds_other(words, p, from.len(), left)
+    let left = make(call, asked, graph, vector);
+    compared::finds_other(asked, graph.from.len(), &left)
 }
 
 // The crate that makes a call goes by the call's number.
-fn make(words: &[u64], p: Places, from: &[u32], to: &[u32], weight: &[f64], vector: &[f64]) -> Left
-    ensures { Reports (word_at words.now 0 0) result }
+fn make(call: Call, asked: Record<'_>, graph: Graph<'_>, vector: &[f64]) -> Left
+    ensures { Reports (word_at asked.entry.words.now 0 0) result }
 {
-    let own = p.own;
-    let lengths = p.lengths;
-    let call = words::word(words, 0, 0);
-    if has_rounds(call) {
-        return calls_iterated::make(words, own, lengths, from, to, weight, vector);
+    let number = words::word(asked.words, 0, 0);
+    if has_rounds(number) {
+        return calls_iterated::make(call, asked, graph, vector);
     }
-    if counts_paths(call) {
-        return calls_between::make(words, own, lengths, from, to, weight);
+    if counts_paths(number) {
+        return calls_between::make(call, asked, graph);
     }
-    calls_walked::make(words, own, lengths, from, to, weight)
+    calls_walked::make(call, asked, graph)
 }
 
+#[tactic(auto, unfolding(crate::specs::Record::has_rounds))]
 fn has_rounds(call: u64) -> bool
     ensures { result ≡ has_rounds call }
 {
-    if call < 10 {
-        return false;
-    }
-    call < 14
+    (10..14).contains(&call)
 }
 
+#[tactic(auto, unfolding(crate::specs::Record::counts_paths))]
 fn counts_paths(call: u64) -> bool
     ensures { result ≡ counts_paths call }
 {
-    if call < 4 {
-        return false;
-    }
-    call < 6
+    (4..6).contains(&call)
 }
 
 // Whether the words end where the record does, and no slice is longer than what is lent here.
-fn fits(words: &[u64], p: Places) -> bool
-    ensures { result ≡ fits_in words.now p }
+#[tactic(auto, unfolding(crate::specs::Record::fits_in))]
+fn fits(asked: Record<'_>) -> bool
+    ensures { result ≡ fits_in asked.entry.words.now asked.entry.parts }
 {
-    let own = p.own;
-    let lengths = p.lengths;
-    if p.end != words.len() {
-        return false;
-    }
-    if longer(words, 3, &[EDGES, EDGES, EDGES]) {
-        return false;
-    }
-    if VECTOR < words::size(words, own, 5) {
-        return false;
-    }
-    if longer(
-        words,
-        lengths,
-        &[RESULTS, RESULTS, RESULTS, RESULTS, NARROW, WIDE, FLOATS],
-    ) {
-        return false;
-    }
-    true
+    let Record { words, parts } = asked;
+    parts.end == words.len()
+        && !longer(words, 3, &[EDGES, EDGES, EDGES])
+        && words::size(words, parts.own, 5) <= VECTOR
+        && !longer(
+            words,
+            parts.lengths,
+            &[RESULTS, RESULTS, RESULTS, RESULTS, NARROW, WIDE, FLOATS],
+        )
 }
 
 // Whether one of the lengths behind a place is more than the most that is lent for it.
+#[tactic(auto, using(crate::proofs::Record::limits))]
 fn longer(words: &[u64], place: usize, most: &[usize]) -> bool
     ensures { result ≡ is_longer words.now place most.now }
 {
-    let mut i = 0;
-    while i < most.len() {
-        if most[i] < words::size(words, place, i) {
+    for (i, limit) in most.iter().enumerate() {
+        if *limit < words::size(words, place, i) {
             return true;
         }
-        i += 1;
     }
     false
 }
 
-// A length, `most` at most.
-fn room(words: &[u64], place: usize, further: usize, most: usize) -> usize
-    ensures { result ≤ most }
-{
-    let length = words::size(words, place, further);
-    if most < length {
-        return most;
-    }
-    length
-}
-
 // The ends of the record's edges: every third word from a place on.
 fn put_ends(words: &[u64], place: usize, ends: &mut [u32]) {
-    let k = room(words, 6, 0, ends.len());
-    let mut at = place;
-    let mut i = 0;
-    while i < k {
-        ends[i] = (words::word(words, at, 0) % 0x1_0000_0000) as u32;
-        at = std::num::wrapping_add_usize(at, 3);
-        i += 1;
+    for (i, end) in ends.iter_mut().take(words::size(words, 6, 0)).enumerate() {
+        *end = (words::word(words, place, i.wrapping_mul(3)) % 0x1_0000_0000) as u32;
     }
 }
 
 fn put_weights(words: &[u64], weight: &mut [f64]) {
-    let k = room(words, 6, 0, weight.len());
-    let mut at = 9;
-    let mut i = 0;
-    while i < k {
-        weight[i] = text::float_of(words::word(words, at, 0));
-        at = std::num::wrapping_add_usize(at, 3);
-        i += 1;
+    for (i, x) in weight.iter_mut().take(words::size(words, 6, 0)).enumerate() {
+        *x = text::float_of(words::word(words, 9, i.wrapping_mul(3)));
     }
 }
 
 // The entries of a vector.
-fn put_vector(words: &[u64], place: usize, vector: &mut [f64]) {
-    let mut i = 0;
-    while i < vector.len() {
-        vector[i] = text::float_of(words::word(words, place, i));
-        i += 1;
+fn find_vector(asked: Record<'_>) -> [f64; VECTOR] {
+    let mut vector = [0.0; VECTOR];
+    for (i, x) in vector.iter_mut().enumerate() {
+        *x = text::float_of(words::word(asked.words, asked.parts.vector, i));
     }
+    vector
 }

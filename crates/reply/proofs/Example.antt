@@ -6,10 +6,10 @@ use lib.Ieee.{nan, binary64, of_bits, of_fields, to_bits, odd, size}
 use Rattle.text.specs.Bytes.{bytes}
 use Rattle.text.specs.Written.{digits_text, count_in}
 use Rattle.lines.specs.declared.Measure.TheVariants.{Betweenness}
-use Rattle.reply.specs.declared.Settled.TheVariants.{Neither}
+use Rattle.std.specs.Prelude.{None}
 use Rattle.reply.specs.Reply.{lines_text, score_text, answer_text, election_text, refusal_text}
 
-the_example : answer_text Betweenness 3 0 Neither (of_bits binary64 0 ∷ of_bits binary64 0x3ff0000000000000 ∷ of_bits binary64 0 ∷ []) ≡ bytes "measure=betweenness\nanswer=0\nnodes=3\nrounds=0\nsettled=none\nscore=0,0000000000000000\nscore=1,3ff0000000000000\nscore=2,0000000000000000\n"
+the_example : answer_text Betweenness 3 0 None (of_bits binary64 0 ∷ of_bits binary64 0x3ff0000000000000 ∷ of_bits binary64 0 ∷ []) ≡ bytes "measure=betweenness\nanswer=0\nnodes=3\nrounds=0\nsettled=none\nscore=0,0000000000000000\nscore=1,3ff0000000000000\nscore=2,0000000000000000\n"
 unfolding digits_text count_in lines_text of_bits of_fields to_bits odd size
 the_example = refl
 

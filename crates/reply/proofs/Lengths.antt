@@ -13,8 +13,7 @@ use Rattle.lines.specs.declared.Measure.{Measure}
 use Rattle.lines.specs.declared.Measure.TheVariants.{Voterank}
 use Rattle.lines.specs.Names.{name_of}
 use Rattle.lines.proofs.Measures.{name_long}
-use Rattle.reply.specs.declared.Settled.{Settled}
-use Rattle.reply.specs.declared.Settled.TheVariants.{Yes, No, Neither}
+use Rattle.std.specs.Prelude.{Bool, true, false, Option, Some, None}
 use Rattle.reply.specs.Reply.{settled_text, number_text, measure_text, settled_line, head_text, lines_text, score_text, elected_text, answer_text, election_text, refusal_text}
 
 decimal_long : (v : ℕ) → length (decimal_text v) ≤ 20
@@ -23,22 +22,22 @@ decimal_long v = omega (arith, digits_long 10 (count_in 19 v) v, count_long 19 v
 number_long : (key : List ℕ) (v : ℕ) → length (number_text key v) ≤ length key + 21
 number_long key v = omega (arith, length-append (key ++ decimal_text v) (bytes "\n"), length-append key (decimal_text v), decimal_long v)
 
-settled_long : (settled : Settled) → length (settled_text settled) ≤ 4
-settled_long Yes = omega arith
-settled_long No = omega arith
-settled_long Neither = omega arith
+settled_long : (settled : Option Bool) → length (settled_text settled) ≤ 4
+settled_long (Some true) = omega arith
+settled_long (Some false) = omega arith
+settled_long None = omega arith
 
 measure_long : (measure : Measure) → length (measure_text measure) ≤ 21
 measure_long measure = omega (arith, length-append (bytes "measure=" ++ name_of measure) (bytes "\n"), length-append (bytes "measure=") (name_of measure), name_long measure)
 
-settled_line_long : (settled : Settled) → length (settled_line settled) ≤ 13
+settled_line_long : (settled : Option Bool) → length (settled_line settled) ≤ 13
 settled_line_long settled = omega (arith, length-append (bytes "settled=" ++ settled_text settled) (bytes "\n"), length-append (bytes "settled=") (settled_text settled), settled_long settled)
 
 -- five texts one after the other
 five : (a b c d e : List ℕ) → length (a ++ b ++ c ++ d ++ e) ≡ length a + length b + length c + length d + length e
 five a b c d e = omega (arith, length-append (a ++ b ++ c ++ d) e, length-append (a ++ b ++ c) d, length-append (a ++ b) c, length-append a b)
 
-head_long : (measure : Measure) (nodes rounds : ℕ) (settled : Settled) → length (head_text measure nodes rounds settled) ≤ 128
+head_long : (measure : Measure) (nodes rounds : ℕ) (settled : Option Bool) → length (head_text measure nodes rounds settled) ≤ 128
 head_long measure nodes rounds settled =
     let m = measure_long measure in
     let a = number_long (bytes "answer=") 0 in
@@ -66,7 +65,7 @@ lines_long line b h k (x ∷ xs) =
     omega (arith, length-append (line k x) (lines_text line (k + 1) xs))
 
 -- the room of each whole text
-pub answer_long : (measure : Measure) (nodes rounds : ℕ) (settled : Settled) (scores : List Float) → length (answer_text measure nodes rounds settled scores) ≤ 128 + 44 * length scores
+pub answer_long : (measure : Measure) (nodes rounds : ℕ) (settled : Option Bool) (scores : List Float) → length (answer_text measure nodes rounds settled scores) ≤ 128 + 44 * length scores
 answer_long measure nodes rounds settled scores =
     let h = head_long measure nodes rounds settled in
     let l = lines_long score_text 44 score_long 0 scores in
@@ -74,9 +73,9 @@ answer_long measure nodes rounds settled scores =
 
 pub election_long : (nodes : ℕ) (elected : List ℕ) → length (election_text nodes elected) ≤ 128 + 29 * length elected
 election_long nodes elected =
-    let h = head_long Voterank nodes 0 Neither in
+    let h = head_long Voterank nodes 0 None in
     let l = lines_long elected_text 29 elected_long 0 elected in
-    omega (arith, length-append (head_text Voterank nodes 0 Neither) (lines_text elected_text 0 elected))
+    omega (arith, length-append (head_text Voterank nodes 0 None) (lines_text elected_text 0 elected))
 
 pub refusal_long : (answer line : ℕ) → length (refusal_text answer line) ≤ 54
 refusal_long answer line =

@@ -1,6 +1,6 @@
 -- The text of an answer: of a finished one with its scores or its elected, and of a refusal.
 -- Definitions only. Document 01, "The command program".
-use Rattle.std.specs.Prelude.{ℕ, ◌+◌, List, [], ◌∷◌, ◌++◌, Float}
+use Rattle.std.specs.Prelude.{ℕ, ◌+◌, Bool, true, false, Option, Some, None, List, [], ◌∷◌, ◌++◌, Float}
 use Rattle.std.specs.Float.{binary64}
 use Rattle.std.specs.Float.Ieee.{to_bits}
 use Rattle.text.specs.Bytes.{bytes}
@@ -8,14 +8,12 @@ use Rattle.text.specs.Written.{decimal_text, bits_text}
 use Rattle.lines.specs.declared.Measure.{Measure}
 use Rattle.lines.specs.declared.Measure.TheVariants.{Voterank}
 use Rattle.lines.specs.Names.{name_of}
-use Rattle.reply.specs.declared.Settled.{Settled}
-use Rattle.reply.specs.declared.Settled.TheVariants.{Yes, No, Neither}
 
--- yes, no or none
-abbrev pub settled_text : Settled → List ℕ
-settled_text Yes = bytes "yes"
-settled_text No = bytes "no"
-settled_text Neither = bytes "none"
+-- whether the rounds settled: yes or no, and none where there are no rounds
+abbrev pub settled_text : Option Bool → List ℕ
+settled_text (Some true) = bytes "yes"
+settled_text (Some false) = bytes "no"
+settled_text None = bytes "none"
 
 -- KEY DECIMAL
 abbrev pub number_text : List ℕ → ℕ → List ℕ
@@ -26,11 +24,11 @@ abbrev pub measure_text : Measure → List ℕ
 measure_text measure = bytes "measure=" ++ name_of measure ++ bytes "\n"
 
 -- settled=yes, no or none
-abbrev pub settled_line : Settled → List ℕ
+abbrev pub settled_line : Option Bool → List ℕ
 settled_line settled = bytes "settled=" ++ settled_text settled ++ bytes "\n"
 
 -- the five lines of a finished answer
-abbrev pub head_text : Measure → ℕ → ℕ → Settled → List ℕ
+abbrev pub head_text : Measure → ℕ → ℕ → Option Bool → List ℕ
 head_text measure nodes rounds settled =
     measure_text measure
     ++ number_text (bytes "answer=") 0
@@ -52,12 +50,12 @@ abbrev pub elected_text : ℕ → ℕ → List ℕ
 elected_text k node = number_text (bytes "elected=") node
 
 -- a measure's answer
-abbrev pub answer_text : Measure → ℕ → ℕ → Settled → List Float → List ℕ
+abbrev pub answer_text : Measure → ℕ → ℕ → Option Bool → List Float → List ℕ
 answer_text measure nodes rounds settled scores = head_text measure nodes rounds settled ++ lines_text score_text 0 scores
 
 -- VoteRank's answer: the elected in their order
 abbrev pub election_text : ℕ → List ℕ → List ℕ
-election_text nodes elected = head_text Voterank nodes 0 Neither ++ lines_text elected_text 0 elected
+election_text nodes elected = head_text Voterank nodes 0 None ++ lines_text elected_text 0 elected
 
 -- a refusal: its number, and the faulty line or 0
 abbrev pub refusal_text : ℕ → ℕ → List ℕ

@@ -8,21 +8,14 @@ ghost use Rattle.reply.specs.Reply.{settled_text, number_text, measure_text, set
 
 use lines::Measure;
 
-#[derive(Clone, Copy)]
-pub enum Settled {
-    Yes,
-    No,
-    Neither,
-}
-
-// Writes a measure's answer, of at most 128 bytes and 44 for each score.
+// Writes a measure's answer, of at most 128 bytes and 44 for each score. `settled` is none for a measure without rounds.
 pub fn put_answer(
     output: &mut [u8],
     at: usize,
     measure: Measure,
     nodes: u64,
     rounds: u64,
-    settled: Settled,
+    settled: Option<bool>,
     scores: &[f64],
 ) -> usize
     requires { at + 128 + 44 * length scores.now ≤ length output.old }
@@ -37,7 +30,7 @@ pub fn put_election(output: &mut [u8], at: usize, nodes: u64, elected: &[u32]) -
     requires { at + 128 + 29 * length elected.now ≤ length output.old }
     ensures { Written (election_text nodes elected.now) output.old at output.new result }
 {
-    let a = put_head(output, at, Measure::Voterank, nodes, 0, Settled::Neither);
+    let a = put_head(output, at, Measure::Voterank, nodes, 0, None);
     put_elected(output, a, elected)
 }
 
@@ -57,7 +50,7 @@ fn put_head(
     measure: Measure,
     nodes: u64,
     rounds: u64,
-    settled: Settled,
+    settled: Option<bool>,
 ) -> usize
     requires { at + 128 ≤ length output.old }
     ensures { Written (head_text measure nodes rounds settled) output.old at output.new result × (result ≤ at + 128) }
@@ -84,10 +77,7 @@ fn put_name(output: &mut [u8], at: usize, measure: Measure) -> usize
     requires { at + 12 ≤ length output.old }
     ensures { Written (name_of measure) output.old at output.new result × (result ≤ at + 12) }
 {
-    let word = lines::name(measure);
-    let bytes = word.bytes;
-    let long = word.long;
-    text::put(output, at, &bytes[..long])
+    text::put(output, at, lines::name(measure))
 }
 
 // Writes the line KEY DECIMAL.
@@ -101,7 +91,7 @@ fn put_number(output: &mut [u8], at: usize, key: &[u8], v: u64) -> usize
 }
 
 // Writes the line that says whether the rounds settled, of at most 13 bytes.
-fn put_settled_line(output: &mut [u8], at: usize, settled: Settled) -> usize
+fn put_settled_line(output: &mut [u8], at: usize, settled: Option<bool>) -> usize
     requires { at + 13 ≤ length output.old }
     ensures { Written (settled_line settled) output.old at output.new result × (result ≤ at + 13) }
 {
@@ -110,14 +100,14 @@ fn put_settled_line(output: &mut [u8], at: usize, settled: Settled) -> usize
     text::put(output, b, b"\n")
 }
 
-fn put_settled(output: &mut [u8], at: usize, settled: Settled) -> usize
+fn put_settled(output: &mut [u8], at: usize, settled: Option<bool>) -> usize
     requires { at + 4 ≤ length output.old }
     ensures { Written (settled_text settled) output.old at output.new result × (result ≤ at + 4) }
 {
     match settled {
-        Settled::Yes => text::put(output, at, b"yes"),
-        Settled::No => text::put(output, at, b"no"),
-        Settled::Neither => text::put(output, at, b"none"),
+        Some(true) => text::put(output, at, b"yes"),
+        Some(false) => text::put(output, at, b"no"),
+        None => text::put(output, at, b"none"),
     }
 }
 
@@ -127,10 +117,8 @@ fn put_scores(output: &mut [u8], start: usize, scores: &[f64]) -> usize
     ensures { Written (lines_text score_text 0 scores.now) output.old start output.new result }
 {
     let mut at = start;
-    let mut k = 0;
-    while k < scores.len() {
-        at = put_score(output, at, k, scores[k]);
-        k += 1;
+    for (k, x) in scores.iter().enumerate() {
+        at = put_score(output, at, k, *x);
     }
     at
 }
@@ -153,16 +141,8 @@ fn put_elected(output: &mut [u8], start: usize, elected: &[u32]) -> usize
     ensures { Written (lines_text elected_text 0 elected.now) output.old start output.new result }
 {
     let mut at = start;
-    let mut k = 0;
-    while k < elected.len() {
-        at = put_number(output, at, b"elected=", wide(elected[k]));
-        k += 1;
+    for node in elected {
+        at = put_number(output, at, b"elected=", u64::from(*node));
     }
     at
-}
-
-fn wide(node: u32) -> u64
-    ensures { result ≡ node }
-{
-    node as u64
 }

@@ -23,6 +23,13 @@ not_nan nan e = absurd (true≢false e)
 not_nan (inf s) e = tt
 not_nan (fin s m e) p = tt
 
+-- ---- the test `x.is_nan()`
+pub nan_of : (x : Float) → true ≡ is_nan x → x ≡ nan
+unfolding is_nan
+nan_of nan e = refl
+nan_of (inf s) e = absurd (true≢false e)
+nan_of (fin s m d) e = absurd (true≢false e)
+
 -- ---- the sign's bit
 fits_sign : (s t : Bool) (m : ℕ) (e : ℤ) → T (fits binary64 (fin s m e)) → T (fits binary64 (fin t m e))
 unfolding fits

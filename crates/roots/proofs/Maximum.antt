@@ -1,15 +1,14 @@
 -- The greater of two doubles, by the tests that lead to it. Assumes nothing.
 use Prim.Native.Nat.{ℕ, ◌+◌, ◌*◌}
-use mathlib.Core.Path.{◌≡◌, refl, sym, ap, ◌∙◌, subst}
+use mathlib.Core.Path.{◌≡◌, refl, sym, ap, ◌∙◌}
 use mathlib.Core.Logic.{◌⊎◌, inl, inr}
 use mathlib.Core.Bool.{Bool, true, false, not, ◌&&◌, ◌||◌, cond, true≢false, false≢true}
 use native.Mathlib.Omega.{arith}
 use borrow.Author.Tests.{ltb-true, le-ltb, eqb-true}
 use lib.Dec.{T, eqb}
-use lib.Ieee.{Float, nan, inf, fin, binary64, up, down, below, level, lt, eq, fits, is_nan, to_bits}
-use Rattle.roots.specs.Fields.{sign_of}
+use lib.Ieee.{Float, nan, inf, fin, up, down, below, level, lt, eq, is_nan}
+use Rattle.std.specs.Float.{is_sign_negative}
 use Rattle.roots.specs.Maximum.{negative, under, max_of}
-use Rattle.roots.proofs.Absolute.{sign_bit}
 
 -- ---- each test settles one part of `max_of`
 or_true : (a : Bool) → (a || true) ≡ true
@@ -20,9 +19,9 @@ pub max_less : (x y : Float) → lt x y ≡ true → y ≡ max_of x y
 unfolding max_of under
 max_less x y l = sym (ap (λ (t : Bool). cond (is_nan x || (t || (eq x y && negative x))) y x) l ∙ ap (λ (t : Bool). cond t y x) (or_true (is_nan x)))
 
-pub max_nan : (x y : Float) → x ≡ nan → y ≡ max_of x y
-unfolding max_of is_nan
-max_nan x y e = subst (λ (z : Float). y ≡ max_of z y) (sym e) refl
+pub max_nan : (x y : Float) → true ≡ is_nan x → y ≡ max_of x y
+unfolding max_of
+max_nan x y e = ap (λ (t : Bool). cond (t || under x y) y x) e
 
 -- a number that is not below y
 not_below : (x y : Float) → T (not (is_nan x)) → under x y ≡ false → x ≡ max_of x y
@@ -38,43 +37,22 @@ under_is x y t u l e s = ap (λ (b : Bool). b || (eq x y && negative x)) l ∙ a
 pub max_more : (x y : Float) → T (not (is_nan x)) → lt x y ≡ false → eq x y ≡ false → x ≡ max_of x y
 max_more x y n l e = not_below x y n (under_is x y false (negative x) l e refl)
 
--- ---- equal numbers: the sign's bit decides
-pub equal_numbers : (x y : Float) → eq x y ≡ true → T (not (is_nan x))
-unfolding eq is_nan
-equal_numbers nan y e = absurd (false≢true e)
-equal_numbers (inf s) y e = tt
-equal_numbers (fin s m d) y e = tt
-
-inf_sign : (s : Bool) → sign_of (to_bits binary64 (inf s)) ≡ cond s 1 0
-unfolding to_bits
-inf_sign true = refl
-inf_sign false = refl
-
-sign_is : (x : Float) → T (fits binary64 x) → T (not (is_nan x)) → sign_of (to_bits binary64 x) ≡ cond (negative x) 1 0
-unfolding is_nan
-sign_is nan f n = absurd n
-sign_is (inf s) f n = inf_sign s
-sign_is (fin s m e) f n = sign_bit m e s f
-
-bool_is : (b t : Bool) (k : ℕ) → k ≡ cond b 1 0 → k ≡ cond t 1 0 → b ≡ t
-bool_is true true k p q = refl
-bool_is true false k p q = absurd (omega arith)
-bool_is false true k p q = absurd (omega arith)
-bool_is false false k p q = refl
+-- ---- equal numbers: the sign decides
+sign_is : (x : Float) → is_sign_negative x ≡ negative x
+unfolding is_sign_negative
+sign_is nan = refl
+sign_is (inf s) = refl
+sign_is (fin s m e) = refl
 
 below_it : (x y : Float) → under x y ≡ true → y ≡ max_of x y
 unfolding max_of
 below_it x y u = sym (ap (λ (t : Bool). cond (is_nan x || t) y x) u ∙ ap (λ (t : Bool). cond t y x) (or_true (is_nan x)))
 
-pub max_equal_negative : (x y : Float) → T (fits binary64 x) → lt x y ≡ false → eq x y ≡ true → sign_of (to_bits binary64 x) ≡ 1 → y ≡ max_of x y
-max_equal_negative x y f l e s = below_it x y (under_is x y true true l e (bool_is (negative x) true (sign_of (to_bits binary64 x)) (sign_is x f (equal_numbers x y e)) s))
+pub max_equal_negative : (x y : Float) → lt x y ≡ false → eq x y ≡ true → true ≡ is_sign_negative x → y ≡ max_of x y
+max_equal_negative x y l e s = below_it x y (under_is x y true true l e (sym (s ∙ sign_is x)))
 
-pub max_equal : (x y : Float) → T (fits binary64 x) → lt x y ≡ false → eq x y ≡ true → (sign_of (to_bits binary64 x) ≡ 1 → ⊥) → x ≡ max_of x y
-max_equal x y f l e s = not_below x y (equal_numbers x y e) (under_is x y true false l e (plus (negative x) (sign_is x f (equal_numbers x y e))))
-  where
-    plus : (b : Bool) → sign_of (to_bits binary64 x) ≡ cond b 1 0 → b ≡ false
-    plus true h = absurd (s h)
-    plus false h = refl
+pub max_equal : (x y : Float) → T (not (is_nan x)) → lt x y ≡ false → eq x y ≡ true → false ≡ is_sign_negative x → x ≡ max_of x y
+max_equal x y n l e s = not_below x y n (under_is x y true false l e (sym (s ∙ sign_is x)))
 
 -- ---- what the greater is: one of the two, less than neither, and a NaN only if both are
 test_is : Float → Float → Bool

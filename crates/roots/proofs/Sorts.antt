@@ -104,10 +104,6 @@ left_over (fin s zero e) f n z l t = absurd (z (zero_bits s e f))
 left_over (fin true (suc m) e) f n z l t = absurd (l (sign_bit (suc m) e true f))
 left_over (fin false (suc m) e) f n z l t = (m, e, refl)
 
-pub above_bits : (x : Float) → T (fits binary64 x) → Above x → Bits (to_bits binary64 x) (parts x)
-unfolding Above
-above_bits x f (m, e, p) = subst (λ (y : Float). Bits (to_bits binary64 y) (parts y)) (sym p) (bits_of m e (subst (λ (y : Float). T (fits binary64 y)) p f))
-
 pub above_root : (x : Float) → Above x → root_of (exponent_of (to_bits binary64 x)) (fraction_of (to_bits binary64 x)) ≡ sqrt_of x
 unfolding Above sqrt_of
 above_root x (m, e, p) = subst (λ (y : Float). root_of (exponent_of (to_bits binary64 y)) (fraction_of (to_bits binary64 y)) ≡ sqrt_of y) (sym p) refl

@@ -19,10 +19,10 @@ const LEADING: u64 = 0x10_0000_0000_0000;
 pub fn sqrt(x: f64) -> f64
     ensures { (result ≡ sqrt_of x) × SquareRoot x result }
 {
-    if x != x {
+    if x.is_nan() {
         return x;
     }
-    let bits = f64::to_bits(x);
+    let bits = x.to_bits();
     let sign = bits >> 63;
     let exponent = (bits >> 52) & EXPONENT;
     let fraction = bits & FRACTION;
@@ -45,27 +45,21 @@ pub fn sqrt(x: f64) -> f64
 pub fn abs(x: f64) -> f64
     ensures { result ≡ abs_of x }
 {
-    if x != x {
+    if x.is_nan() {
         return x;
     }
-    f64::from_bits(f64::to_bits(x) & MAGNITUDE)
+    f64::from_bits(x.to_bits() & MAGNITUDE)
 }
 
 // The greater of a and b. Beside a NaN the other one; of two zeros +0.0, unless both are -0.0.
 pub fn max(a: f64, b: f64) -> f64
     ensures { result ≡ max_of a b }
 {
-    if a < b {
+    let less = a < b;
+    if less || a.is_nan() {
         return b;
     }
-    if a == b {
-        let bits = f64::to_bits(a);
-        if bits >> 63 == 1 {
-            return b;
-        }
-        return a;
-    }
-    if a != a {
+    if a == b && a.is_sign_negative() {
         return b;
     }
     a
@@ -78,7 +72,7 @@ fn root_of(exponent: u64, fraction: u64) -> f64
     ensures { result ≡ root_of exponent fraction }
 {
     if exponent == 0 {
-        let zeros = (u64::leading_zeros(fraction) as u64) - 11;
+        let zeros = fraction.leading_zeros() as u64 - 11;
         root_at(fraction << zeros, 1022 - zeros)
     } else {
         root_at(fraction + LEADING, exponent + 1021)
@@ -112,12 +106,10 @@ fn long_root(a: u64) -> u64
     let mut q = 0u64;
     let mut rest = 0u64;
     let mut left = a;
-    let mut i = 0u64;
-    while i < 54 {
+    for _ in 0..54u64 {
         let four = 4 * rest + (left >> 52);
         let odd = 4 * q + 1;
         left = (left & FRACTION) << 2;
-        i += 1;
         if odd <= four {
             rest = four - odd;
             q = 2 * q + 1;

@@ -1,5 +1,6 @@
 pub mod Tests
 pub mod Rounds
+pub mod Runs
 pub mod Says
 pub mod Vectors
 pub mod Passes

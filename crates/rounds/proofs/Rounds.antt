@@ -2,6 +2,9 @@
 -- stop rule holds of every settled outcome. Assumes nothing.
 use mathlib.Core.Path.{◌≡◌, refl, sym, ap, ◌∙◌}
 use mathlib.Core.Bool.{Bool, true, false, cond, true≢false}
+use mathlib.Core.List.{List, [], ◌∷◌, ◌++◌}
+use lib.ListN.{length, get_or, get_or-append, length-append}
+use lib.Seq.{get_or-append_seam}
 use Prim.Native.Nat.{ℕ, zero, suc, ◌+◌, ◌-◌, ◌≤◌, ◌<◌}
 use native.Mathlib.Nat.{sub-zero}
 use native.Mathlib.Numerals.{add-one}
@@ -16,6 +19,23 @@ after_none turn s = refl
 pub after_more : {S : Type 0} (turn : ℕ → S → S) (k : ℕ) (s t : S) → t ≡ after turn k s → turn k t ≡ after turn (k + 1) s
 unfolding after
 after_more turn k s t e = ap (turn k) e ∙ ap (λ (j : ℕ). after turn j s) (sym (add-one k))
+
+-- turns that do the same to every state
+after_same : {S : Type 0} (turn other : ℕ → S → S) (k : ℕ) (s : S) → ((i : ℕ) (t : S) → i < k → turn i t ≡ other i t) → after turn k s ≡ after other k s
+unfolding after
+after_same turn other zero s h = refl
+after_same turn other (suc k) s h = h k (after turn k s) (omega arith) ∙ ap (other k) (after_same turn other k s (λ i t l. h i t (omega arith)))
+
+-- a fold over a list is a loop over its places: one item more
+pub folded_more : {A S : Type 0} (f : S → A → S) (d : A) (xs : List A) (x : A) (s : S)
+    → f (after (λ i t. f t (get_or xs i d)) (length xs) s) x ≡ after (λ i t. f t (get_or (xs ++ (x ∷ [])) i d)) (length (xs ++ (x ∷ []))) s
+folded_more {A} {S} f d xs x s =
+    let there : get_or (xs ++ (x ∷ [])) (length xs) d ≡ x = get_or-append_seam xs x [] d in
+    let long : length (xs ++ (x ∷ [])) ≡ length xs + 1 = length-append xs (x ∷ []) in
+    ap (f (after (λ i t. f t (get_or xs i d)) (length xs) s)) (sym there)
+    ∙ after_more (λ i t. f t (get_or (xs ++ (x ∷ [])) i d)) (length xs) s (after (λ i t. f t (get_or xs i d)) (length xs) s)
+    (after_same (λ i t. f t (get_or xs i d)) (λ i t. f t (get_or (xs ++ (x ∷ [])) i d)) (length xs) s (λ i t l. ap (f t) (sym (get_or-append xs (x ∷ []) d i l))))
+    ∙ ap (λ (k : ℕ). after (λ i t. f t (get_or (xs ++ (x ∷ [])) i d)) k s) (sym long)
 
 -- ---- rounds until a stop rule, of which k are done: o is where they end
 module _ {S : Type 0} (step : S → Round S) (o : Out S) (limit : ℕ) where

@@ -1,4 +1,5 @@
 pub mod Rounds
+pub mod Runs
 pub mod Says
 pub mod Tests
 pub mod Ending

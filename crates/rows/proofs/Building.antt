@@ -1,5 +1,5 @@
 -- The walks of `build_rows`, put together. Assumes nothing.
-use mathlib.Core.Path.{◌≡◌, sym, ap, ◌∙◌}
+use mathlib.Core.Path.{◌≡◌, refl, sym, ap, ◌∙◌}
 use mathlib.Core.Logic.{⊎_elim}
 use mathlib.Core.Bool.{Bool, true, false}
 use mathlib.Core.List.{List, ◌++◌}
@@ -16,6 +16,7 @@ use Rattle.rows.specs.Walks.{row_to, back, count_to, sum_to, cells, CountPre, Co
 use Rattle.rows.proofs.Sums.{sum_same, sum_more, sum_mono}
 use Rattle.rows.proofs.Walks.{row_in}
 use Rattle.rows.proofs.Counting.{back_le, count_total}
+use Rattle.rows.proofs.Placing.{none, done}
 use Rattle.rows.proofs.Neighbours.{rows_are}
 use Rattle.rows.proofs.Reading.{row_length, row_entry}
 
@@ -79,9 +80,8 @@ module _ (n : ℕ) (directed : Bool) (fs ts : List ℕ) (xs : List Float) (w : L
         room3 : n + 1 + 2 * m ≤ length w3
         room3 = omega (arith, pre.room, front1.long, s2.front.long, s3.front.long)
 
-        pub place_pre : {r : ℕ} → r ≡ back directed m → PlacePre n true ts fs r (2 * m) w3
-        place_pre e =
-            rw e
+        place_back : PlacePre n true ts fs (back directed m) (2 * m) w3
+        place_back =
             record {
               walked = omega (arith, back_le directed m, pre.sound.sized.tos);
               pair = sym pre.sound.sized.tos;
@@ -92,10 +92,17 @@ module _ (n : ℕ) (directed : Bool) (fs ts : List ℕ) (xs : List Float) (w : L
               apart = λ v u l q. omega (arith, ends v (omega arith), ends u q, start_more u, start_mono (v + 1) u (omega arith));
             }
 
-        module _ (w4 : List ℕ) {r : ℕ} (er : r ≡ back directed m) (s4r : Placed n true ts fs r (2 * m) w3 w4) where
-          s4 : Placed n true ts fs (back directed m) (2 * m) w3 w4
-          s4 = rw er at s4r
+        -- the walk over the to-ends, of an undirected graph
+        pub place_pre : directed ≡ false → PlacePre n true ts fs (length ts) (2 * length ts) w3
+        place_pre d = rw pre.sound.sized.tos (rw d at place_back)
 
+        pub walked : directed ≡ false → {w4 : List ℕ} → Placed n true ts fs (length ts) (2 * length ts) w3 w4 → Placed n true ts fs (back directed m) (2 * m) w3 w4
+        walked d s = rw d (rw pre.sound.sized.tos at s)
+
+        pub unwalked : directed ≡ true → Placed n true ts fs (back directed m) (2 * m) w3 w3
+        unwalked d = rw d (done n true ts fs 0 (2 * m) w3 0 w3 refl (none n true ts fs 0 (2 * m) w3))
+
+        module _ (w4 : List ℕ) (s4 : Placed n true ts fs (back directed m) (2 * m) w3 w4) where
           mids : (v : ℕ) → v < n → get_or w4 v 0 ≡ start v + out v
           mids v l = omega (arith, s4.offs v l, ends v l, start_more v)
 

@@ -11,11 +11,23 @@ use Rattle.graph.specs.Edges.{one_if}
 use Rattle.regions.specs.Region.{Front}
 use Rattle.regions.proofs.Cases.{same_or_not}
 use Rattle.regions.proofs.Fronts.{front_none, front_by, hit, miss}
-use Rattle.rows.specs.Walks.{takes, row_to, back, count_to, sum_to, EdgePre, EdgeCounted, CountPre, Counted}
+use Rattle.rows.specs.Walks.{takes, row_to, back, count_to, sum_to, CountPre, Counted}
 use Rattle.rows.proofs.Walks.{takes_not, takes_own, takes_loop, row_none, long_more, long_le, total_le}
 use Rattle.rows.proofs.Sums.{sum_add}
 
 -- ---- one edge
+-- before an edge: its ends are nodes, and each count can grow
+pub record EdgePre (n : ℕ) (w : List ℕ) (f t : ℕ) : Type 0 where
+  pub room : n ≤ length w
+  pub from : f < n
+  pub to : t < n
+  pub small : (v : ℕ) → v < n → get_or w v 0 ≤ 131072
+
+-- after it: one more for from and, undirected, one more for to unless that is from; no other place of w differs
+pub record EdgeCounted (directed : Bool) (f t : ℕ) (w w' : List ℕ) : Type 0 where
+  pub long : length w' ≡ length w
+  pub at : (v : ℕ) → get_or w' v 0 ≡ get_or w v 0 + (one_if (takes false f t v) + cond directed 0 (one_if (takes true t f v)))
+
 abbrev up : List ℕ → ℕ → List ℕ
 up w x = set w x (get_or w x 0 + 1)
 

@@ -2,9 +2,10 @@
 // newest edge first, edges from the node, then, undirected, edges to it from another node; parallel edges each.
 #![tactic(auto)]
 
-ghost use Rattle.std.specs.Prelude.{◌≡◌, ◌<◌};
-ghost use Rattle.rows.specs.Rows.{RowsFit};
+ghost use Rattle.std.specs.Prelude.{◌<◌};
 
+use graph::Graph;
+use rows::Rows;
 use std::io;
 
 const NODES: usize = 4;
@@ -19,62 +20,69 @@ fn main(rt: HostRuntime) -> io::Result<()> {
     let from = [0u32, 0, 1, 2, 1, 3];
     let to = [1u32, 1, 1, 1, 0, 3];
     let weight = [1.0; 6];
+    let graph = Graph {
+        nodes: NODES,
+        directed: true,
+        from: &from,
+        to: &to,
+        weight: &weight,
+    };
     println!(rt; "directed")?;
-    show(&rt, true, &from, &to, &weight)?;
+    show(&rt, graph)?;
     println!(rt; "undirected")?;
-    show(&rt, false, &from, &to, &weight)?;
+    let undirected = Graph {
+        directed: false,
+        ..graph
+    };
+    show(&rt, undirected)?;
     // no edges
     println!(rt; "no edges")?;
-    show(&rt, false, &from[..0], &to[..0], &weight[..0])?;
+    let empty = Graph {
+        from: &from[..0],
+        to: &to[..0],
+        weight: &weight[..0],
+        ..undirected
+    };
+    show(&rt, empty)?;
     // an end that is no node
     let astray = [0u32, 0, 1, 2, 4, 3];
     println!(rt; "astray")?;
-    show(&rt, true, &from, &astray, &weight)
+    show(
+        &rt,
+        Graph {
+            to: &astray,
+            ..graph
+        },
+    )
 }
 
 // Builds the rows of a graph with four nodes, and prints them.
-fn show(
-    rt: &impl Print,
-    directed: bool,
-    from: &[u32],
-    to: &[u32],
-    weight: &[f64],
-) -> io::Result<()> {
-    if EDGES < from.len() {
+fn show(rt: &impl Print, graph: Graph<'_>) -> io::Result<()> {
+    if graph.nodes != NODES || EDGES < graph.from.len() {
         return Ok(());
     }
-    let answer = graph::graph_refusal(NODES, from, to, weight, false, false);
-    if answers::refuses(answer) {
+    let Ok(()) = graph::graph_refusal(graph, false, false) else {
         return println!(rt; "refused");
-    }
+    };
     let mut w = [0u32; FRONT];
-    rows::build_rows(NODES, directed, from, to, weight, &mut w);
-    print_rows(rt, &w)
-}
-
-fn print_rows(rt: &impl Print, w: &[u32]) -> io::Result<()>
-    requires { RowsFit 4 w.now }
-{
-    let mut v = 0;
-    while v < NODES {
-        print_row(rt, w, v)?;
-        v += 1;
+    rows::build_rows(graph, &mut w);
+    let rows = Rows {
+        nodes: NODES,
+        cells: &w,
+    };
+    for v in 0..NODES {
+        print_row(rt, rows, v)?;
     }
     Ok(())
 }
 
 // A node and its entries on a line.
-fn print_row(rt: &impl Print, w: &[u32], v: usize) -> io::Result<()>
-    requires rows_fit { RowsFit 4 w.now }
-    requires v_bound { v < 4 }
+fn print_row(rt: &impl Print, rows: Rows<'_>, v: usize) -> io::Result<()>
+    requires { v < rows.nodes }
 {
     print!(rt; "{v}:")?;
-    let entries = rows::row_length(NODES, w, v);
-    let mut k = 0;
-    while k < entries {
-        let other = rows::entry(NODES, w, v, k);
+    for other in rows.row(v) {
         print!(rt; " {other}")?;
-        k += 1;
     }
     println!(rt)
 }

@@ -2,6 +2,7 @@
 use mathlib.Core.Path.{◌≡◌, refl, sym, ap, ◌∙◌}
 use mathlib.Core.Bool.{Bool, true, false, cond, ◌||◌}
 use mathlib.Core.List.{List, []}
+use Rattle.std.specs.Prelude.{None, Some}
 use Prim.Native.Nat.{ℕ, ◌≤◌}
 use native.Mathlib.Omega.{arith}
 use borrow.Author.Tests.{le-ltb}
@@ -34,10 +35,9 @@ use Rattle.links.specs.Links.{links_of}
 use Rattle.lines.specs.declared.Measure.{Measure}
 use Rattle.lines.specs.declared.Measure.TheVariants.{Betweenness, Pagerank, Personalized, Eigenvector, Katz, Reaching, Voterank, Laplacian, Degree}
 use Rattle.lines.specs.declared.Top.{Top}
-use Rattle.reply.specs.declared.Settled.TheVariants.{Neither}
 use Rattle.reply.specs.Reply.{answer_text, election_text}
 use Rattle.outcomes.specs.Lent.{Lent, lent, given_scores, given_elected, given_places}
-use Rattle.outcomes.specs.Texts.{said_text, settled_is, settings_of, plain_of, ended_of}
+use Rattle.outcomes.specs.Texts.{said_text, settings_of, plain_of, ended_of}
 use Rattle.degree.specs.Degree.{end_score, end_scores, ends_outcome}
 use Rattle.betweenness.specs.Betweenness.{betweenness_scores, betweenness_outcome}
 use Rattle.reaching.specs.Reaching.{reach_score, reaching_outcome}
@@ -148,7 +148,7 @@ module _ (top : Top) (from to : List ℕ) (weight : List Float) (l l' : Lent) (A
       many _ = n
 
       text : Unit {0} → List Float → List ℕ
-      text _ ys = answer_text measure n 0 Neither ys
+      text _ ys = answer_text measure n 0 None ys
 
   -- an iterative measure whose rounds end with o, or UNSETTLED if not `fine`
   ended_same : (measure : Measure) (empties fine : Bool) (own : Own) (o : Out (List Float)) → length o.last ≡ n
@@ -165,7 +165,7 @@ module _ (top : Top) (from to : List ℕ) (weight : List Float) (l l' : Lent) (A
       many _ = n
 
       text : Rounds → List Float → List ℕ
-      text r ys = answer_text measure n r.rounds (settled_is r.settled) ys
+      text r ys = answer_text measure n r.rounds (Some r.settled) ys
 
   betweenness_same : betweenness_text top (beside from to weight l) ≡ betweenness_text top (beside from to weight l')
   unfolding betweenness_outcome
@@ -224,10 +224,10 @@ module _ (top : Top) (from to : List ℕ) (weight : List Float) (l l' : Lent) (A
   degree_same : degree_text top (beside from to weight l) ≡ degree_text top (beside from to weight l')
   unfolding ends_outcome end_scores
   degree_same =
-      unless_same (λ (_ : Unit {0}). n) (λ _ ys. answer_text Degree n 0 Neither ys) (given_places top (beside from to weight l)) (given_places top (beside from to weight l')) _ _
+      unless_same (λ (_ : Unit {0}). n) (λ _ ys. answer_text Degree n 0 None ys) (given_places top (beside from to weight l)) (given_places top (beside from to weight l')) _ _
       (ap (λ (b : Bool). first_refusal (ends_tests n from to weight false false b)) (le-ltb (length l.scores) n A.slots ∙ sym (le-ltb (length l'.scores) n B.slots)))
       _ _
-      (done_same (λ (_ : Unit {0}). n) (λ _ ys. answer_text Degree n 0 Neither ys) (given_places top (beside from to weight l)) (given_places top (beside from to weight l')) no_fronts tt (list_of (end_score true true (edges_in here)) n) (list_long (end_score true true (edges_in here)) n))
+      (done_same (λ (_ : Unit {0}). n) (λ _ ys. answer_text Degree n 0 None ys) (given_places top (beside from to weight l)) (given_places top (beside from to weight l')) no_fronts tt (list_of (end_score true true (edges_in here)) n) (list_long (end_score true true (edges_in here)) n))
 
 -- ---- the law
 

@@ -1,14 +1,13 @@
 -- The whole search: what holds before each visit, and at the end of the queue. Assumes nothing.
-use mathlib.Core.Path.{◌≡◌, subst}
 use mathlib.Core.Bool.{Bool}
 use mathlib.Core.List.{List}
 use Prim.Native.Nat.{ℕ, ◌+◌, ◌≤◌, ◌<◌}
 use native.Mathlib.Omega.{arith}
+use Rattle.std.specs.Prelude.{Result, Ok, Err}
 use lib.ListN.{length, get_or}
 use Rattle.graph.specs.Edges.{Edge, Graph, entries}
-use Rattle.hops.specs.declared.Reached.{Reached}
-use Rattle.hops.specs.declared.Reached.TheVariants.{Nodes, Paths}
-use Rattle.hops.specs.Search.{graph_of, Kept, Search, Found, TooMany, Visiting, VisitPost, Visited}
+use Rattle.hops.specs.declared.TooManyPaths.{TooManyPaths}
+use Rattle.hops.specs.Search.{graph_of, Kept, Search, Found, TooMany, Visiting, VisitPost}
 use Rattle.hops.proofs.Search.{kept_none, kept_then, tail_most, next_node, finish}
 
 -- The search that began with w₀ and c₀ is to visit the node at place `head` of its queue, if that is a place before `tail`; else it is over.
@@ -26,24 +25,20 @@ module _ {n limit D Q : ℕ} (directed : Bool) (es : List Edge) (s : ℕ) {w₀ 
   pub run_visiting : Visiting n limit D Q head tail w c
   run_visiting = record { directed = directed; edges = es; start = s; search = R.going l }
 
-  module _ {w' c' : List ℕ} {r : Reached} (P : VisitPost n limit D Q head tail w c w' c' r) where
-    pub run_kept : Kept n D Q w₀ c₀ w' c'
-    run_kept = kept_then R.kept P.kept
+  pub run_kept : {w' c' : List ℕ} {r : Result ℕ TooManyPaths} → VisitPost n limit D Q head tail w c w' c' r → Kept n D Q w₀ c₀ w' c'
+  run_kept P = kept_then R.kept P.kept
 
-    at : Visited (graph_of n directed es) limit s D Q head (get_or w (Q + head) 0) w' c' r
-    at = P.visited directed es s (R.going l)
+  pub run_step : {w' c' : List ℕ} {end : ℕ} → VisitPost n limit D Q head tail w c w' c' (Ok end) → Run (graph_of n directed es) limit s D Q w₀ c₀ w' c' (head + 1) end
+  run_step {w'} {c'} {end} P =
+      record {
+        most = tail_most here;
+        kept = run_kept P;
+        going = λ q. next_node here (omega arith) q;
+        over = λ q. finish here (omega arith) q;
+      }
+    where
+      here : Search (graph_of n directed es) limit s w' c' D Q head end (get_or w (Q + head) 0) (length (entries (graph_of n directed es) (get_or w (Q + head) 0)))
+      here = P.visited directed es s (R.going l)
 
-    pub run_step : (end : ℕ) → r ≡ Nodes end → Run (graph_of n directed es) limit s D Q w₀ c₀ w' c' (head + 1) end
-    run_step end e =
-        record {
-          most = tail_most here;
-          kept = run_kept;
-          going = λ q. next_node here (omega arith) q;
-          over = λ q. finish here (omega arith) q;
-        }
-      where
-        here : Search (graph_of n directed es) limit s w' c' D Q head end (get_or w (Q + head) 0) (length (entries (graph_of n directed es) (get_or w (Q + head) 0)))
-        here = subst (Visited (graph_of n directed es) limit s D Q head (get_or w (Q + head) 0) w' c') e at
-
-    pub run_paths : r ≡ Paths → TooMany (graph_of n directed es) limit s
-    run_paths e = subst (Visited (graph_of n directed es) limit s D Q head (get_or w (Q + head) 0) w' c') e at
+  pub run_paths : {w' c' : List ℕ} {e : TooManyPaths} → VisitPost n limit D Q head tail w c w' c' (Err e) → TooMany (graph_of n directed es) limit s
+  run_paths P = P.visited directed es s (R.going l)

@@ -3,79 +3,57 @@
 
 ghost use Rattle.hops.specs.Search.{SearchPre, SearchPost, OnPost, Visiting, VisitPost};
 
-use hops::Reached;
+use hops::{Places, TooManyPaths};
 
-// The whole search from one start, over rows at the front of w: distances from `distances` of w, a queue from `queue`, counts in `counts`.
+// The whole search from one start, over rows at the front of w; the counts stand at the front of `counts`.
 pub fn search_from(
-    nodes: usize,
+    places: Places,
     start: usize,
-    limit: u64,
-    distances: usize,
-    queue: usize,
     w: &mut [u32],
     counts: &mut [u64],
-) -> Reached
-    requires { SearchPre nodes start limit distances queue w.old counts.old }
-    ensures { SearchPost nodes start limit distances queue w.old counts.old w.new counts.new result }
+) -> Result<usize, TooManyPaths>
+    requires { SearchPre places.nodes start places.limit places.distances places.queue w.old counts.old }
+    ensures { SearchPost places.nodes start places.limit places.distances places.queue w.old counts.old w.new counts.new result }
 {
-    hops::begin(start, distances, queue, w, counts);
-    search_on(nodes, limit, distances, queue, w, counts)
+    hops::begin(places, start, w, counts);
+    search_on(places, w, counts)
 }
 
 // From the start alone in the queue to its end: each node's entries in turn.
-fn search_on(
-    nodes: usize,
-    limit: u64,
-    distances: usize,
-    queue: usize,
-    w: &mut [u32],
-    counts: &mut [u64],
-) -> Reached
-    requires { Visiting nodes limit distances queue 0 1 w.old counts.old }
-    ensures { OnPost nodes limit distances queue w.old counts.old w.new counts.new result }
+fn search_on(places: Places, w: &mut [u32], counts: &mut [u64]) -> Result<usize, TooManyPaths>
+    requires { Visiting places.nodes places.limit places.distances places.queue 0 1 w.old counts.old }
+    ensures { OnPost places.nodes places.limit places.distances places.queue w.old counts.old w.new counts.new result }
 {
     let mut head = 0;
     let mut tail = 1;
     while head < tail {
-        let reached = visit(nodes, limit, distances, queue, head, tail, w, counts);
-        let Reached::Nodes(end) = reached else {
-            return Reached::Paths;
-        };
-        tail = end;
+        tail = visit(places, head, tail, w, counts)?;
         head += 1;
     }
-    Reached::Nodes(tail)
+    Ok(tail)
 }
 
 // All entries of the node at place `head` of the queue, of which `tail` places are taken.
 fn visit(
-    nodes: usize,
-    limit: u64,
-    distances: usize,
-    queue: usize,
+    places: Places,
     head: usize,
     tail: usize,
     w: &mut [u32],
     counts: &mut [u64],
-) -> Reached
-    requires { Visiting nodes limit distances queue head tail w.old counts.old }
-    ensures { VisitPost nodes limit distances queue head tail w.old counts.old w.new counts.new result }
+) -> Result<usize, TooManyPaths>
+    requires { Visiting places.nodes places.limit places.distances places.queue head tail w.old counts.old }
+    ensures { VisitPost places.nodes places.limit places.distances places.queue head tail w.old counts.old w.new counts.new result }
 {
-    let u = w[queue + head] as usize;
-    let further = w[distances + u] + 1;
+    let u = w[places.queue + head] as usize;
+    let further = w[places.distances + u] + 1;
     let ways = counts[u];
-    let rows = nodes + 1;
+    let rows = places.nodes + 1;
+    let from = rows + w[u] as usize;
     let end = rows + w[u + 1] as usize;
-    let mut p = rows + w[u] as usize;
-    let mut place = queue + tail;
-    while p < end {
-        let x = w[p];
-        let step = hops::touch(x, further, ways, limit, distances, place, w, counts);
-        if hops::too_many(step) {
-            return Reached::Paths;
-        }
-        place = place + hops::grown(step);
-        p += 1;
+    let mut place = places.queue + tail;
+    for p in from..end {
+        let step = hops::touch(places, w[p], further, ways, place, w, counts)?;
+        place += step.grown();
     }
-    Reached::Nodes(place - queue)
+    Ok(place - places.queue)
 }

@@ -1,29 +1,28 @@
 -- What the steps of one start ask, and what they leave together; start after start. Assumes nothing.
-use mathlib.Core.Path.{◌≡◌, sym, ap, subst}
+use mathlib.Core.Path.{◌≡◌, refl, sym, ap, subst}
 use mathlib.Core.Bool.{Bool, true, false, false≢true}
 use mathlib.Core.List.{List, foldr}
 use Prim.Native.Nat.{ℕ, ◌+◌, ◌<◌}
 use native.Mathlib.Numerals.{add-one}
 use native.Mathlib.Omega.{arith}
+use Rattle.std.specs.Prelude.{Result, Ok, Err}
 use lib.Ieee.{Float}
 use Rattle.regions.specs.Region.{part, Front}
 use Rattle.graph.specs.Edges.{Edge, Graph}
 use Rattle.graph.specs.Fronts.{usual_fronts}
-use Rattle.graph.specs.Layout.{distances_at, queue_at, incoming_at, filled_at, predecessors_at}
-use Rattle.hops.specs.declared.Reached.{Reached}
-use Rattle.hops.specs.declared.Reached.TheVariants.{Nodes, Paths}
-use Rattle.hops.specs.Hops.{path_limit}
+use Rattle.graph.specs.Layout.{distances_at, queue_at}
+use Rattle.hops.specs.declared.TooManyPaths.{TooManyPaths}
 use Rattle.hops.specs.Search.{graph_of, ForgetPre, Forgotten}
 use Rattle.hops.proofs.Forgetting.{forget_pre}
 use Rattle.brandes.specs.Steps.{held_predecessors, left_by, AccumulatePre, ReleasePre, Released}
-use Rattle.predecessors.specs.Tracks.{Traced, Ended, SearchPre, SearchPost}
+use Rattle.predecessors.specs.Tracks.{Traced, SearchPre, SearchPost}
 use Rattle.brandes.proofs.Starts.{accumulate_pre}
-use Rattle.brandes.specs.Shares.{from_start, scores_after, some_exceeds}
-use Rattle.starts.specs.Starts.{Still, Scored, StartPre, StartPost, StartsPre, StartsPost}
+use Rattle.brandes.specs.Shares.{from_start, scores_after}
+use Rattle.starts.specs.Starts.{tracks_at, stopped, Still, Scored, StartPre, StartPost, StartsPre, StartsPost}
 use Rattle.starts.proofs.Starting.{not_many, release_pre, still_next, within_next, score_front, score_kept, scored_next, within_paths, many}
 use Rattle.starts.proofs.Following.{within_then, Adds, Added, added_more, added_paths}
 
-pub search_pre : {n m s : ℕ} {w c : List ℕ} {f : List Float} → StartPre n m s w c f → SearchPre n s path_limit (distances_at n m) (queue_at n m) (incoming_at n m) (filled_at n m) (predecessors_at n m) w c
+pub search_pre : {n m s : ℕ} {w c : List ℕ} {f : List Float} → StartPre n m s w c f → SearchPre (tracks_at n m) s w c
 search_pre {n} {m} {s} P =
     record {
       directed = P.directed;
@@ -35,40 +34,39 @@ search_pre {n} {m} {s} P =
       some = omega arith;
     }
 
-module _ {n m s : ℕ} {w c : List ℕ} {f : List Float} (pre : StartPre n m s w c f) {w1 c1 : List ℕ} {r : Reached}
-    (P : SearchPost n s path_limit (distances_at n m) (queue_at n m) (incoming_at n m) (filled_at n m) (predecessors_at n m) w c w1 c1 r) where
+module _ {n m s : ℕ} {w c : List ℕ} {f : List Float} (pre : StartPre n m s w c f) {w1 c1 : List ℕ} where
   -- a path count is above the limit
-  pub start_paths : r ≡ Paths → StartPost n m s w c f w1 c1 f true
-  start_paths e =
+  pub start_paths : {e : TooManyPaths} → SearchPost (tracks_at n m) s w c w1 c1 (Err e) → (e' : TooManyPaths) → StartPost n m s w c f w1 c1 f (Err e')
+  start_paths P e' =
       record {
         within = within_paths pre.still P.stays;
         still = λ q. absurd (false≢true (sym q));
         scored = λ q. absurd (false≢true (sym q));
-        paths = λ directed es S. many (subst (Ended (graph_of n directed es) path_limit s (distances_at n m) (queue_at n m) (incoming_at n m) (filled_at n m) (predecessors_at n m) w1 c1) e (P.ended directed es (S.space s pre.start) S.slots));
+        paths = λ directed es S. many (P.ended directed es (S.space s pre.start) S.slots);
       }
 
-  module _ {tail : ℕ} (e : r ≡ Nodes tail) where
-    pub traced : (directed : Bool) (es : List Edge) → Still (graph_of n directed es) m w c f → Traced (graph_of n directed es) path_limit s w1 c1 (distances_at n m) (queue_at n m) (incoming_at n m) (filled_at n m) (predecessors_at n m) tail
-    traced directed es S = subst (Ended (graph_of n directed es) path_limit s (distances_at n m) (queue_at n m) (incoming_at n m) (filled_at n m) (predecessors_at n m) w1 c1) e (P.ended directed es (S.space s pre.start) S.slots)
+  module _ {tail : ℕ} (P : SearchPost (tracks_at n m) s w c w1 c1 (Ok tail)) where
+    pub traced : (directed : Bool) (es : List Edge) → Still (graph_of n directed es) m w c f → Traced (graph_of n directed es) (tracks_at n m) s w1 c1 tail
+    traced directed es S = P.ended directed es (S.space s pre.start) S.slots
 
-    pub own : Traced (graph_of n pre.directed pre.edges) path_limit s w1 c1 (distances_at n m) (queue_at n m) (incoming_at n m) (filled_at n m) (predecessors_at n m) tail
+    pub own : Traced (graph_of n pre.directed pre.edges) (tracks_at n m) s w1 c1 tail
     own = traced pre.directed pre.edges pre.still
 
-    pub start_accumulate : AccumulatePre n (queue_at n m) (incoming_at n m) (filled_at n m) (predecessors_at n m) tail w1 c1 f
-    start_accumulate = accumulate_pre own pre.still.floats
+    pub start_accumulate : AccumulatePre (tracks_at n m) tail w1 c1 f
+    start_accumulate = accumulate_pre own refl pre.still.floats
 
     pub start_forget : ForgetPre tail (distances_at n m) (queue_at n m) w1 c1
     start_forget = forget_pre own.found
 
-    module _ (f1 : List Float) (acc : f1 ≡ foldr (left_by n c1 (held_predecessors (incoming_at n m) (filled_at n m) (predecessors_at n m) w1) s) f (part w1 (queue_at n m) tail))
+    module _ (f1 : List Float) (acc : f1 ≡ foldr (left_by n c1 (held_predecessors (tracks_at n m) w1) s) f (part w1 (queue_at n m) tail))
         {w2 c2 : List ℕ} (X : Forgotten tail (distances_at n m) (queue_at n m) w1 c1 w2 c2) where
       front : Front f (usual_fronts n m).floats f1
       front = score_front pre.still P.stays own f1 acc
 
-      pub start_release : ReleasePre n tail (queue_at n m) (incoming_at n m) (filled_at n m) w2 f1
+      pub start_release : ReleasePre (tracks_at n m) tail w2 f1
       start_release = release_pre pre.still P.stays own f1 front X
 
-      pub start_done : {w3 : List ℕ} {f2 : List Float} → Released n tail (queue_at n m) (incoming_at n m) (filled_at n m) w2 f1 w3 f2 → StartPost n m s w c f w3 c2 f2 false
+      pub start_done : {w3 : List ℕ} {f2 : List Float} → Released (tracks_at n m) tail w2 f1 w3 f2 → StartPost n m s w c f w3 c2 f2 (Ok tt)
       start_done Y =
           record {
             within = within_next pre.still P.stays own f1 front X Y;
@@ -91,8 +89,8 @@ module _ {n m : ℕ} {w₀ c₀ : List ℕ} {f₀ : List Float} (pre : StartsPre
   pub starts_pre : StartPre n m k w c f
   starts_pre = record { directed = pre.directed; edges = pre.edges; still = A.still pre.directed pre.edges pre.still; limits = pre.limits; start = l }
 
-  module _ {w' c' : List ℕ} {f' : List Float} {r : Bool} (P : StartPost n m k w c f w' c' f' r) where
-    one : Adds (λ g. Still g m) (λ g i w f. Scored n f (scores_after g i)) n m k w c f w' c' f' r
+  module _ {w' c' : List ℕ} {f' : List Float} {r : Result (Unit {0}) TooManyPaths} (P : StartPost n m k w c f w' c' f' r) where
+    one : Adds (λ g. Still g m) (λ g i w f. Scored n f (scores_after g i)) n m k w c f w' c' f' (stopped r)
     one =
         record {
           within = P.within;
@@ -101,21 +99,13 @@ module _ {n m : ℕ} {w₀ c₀ : List ℕ} {f₀ : List Float} (pre : StartsPre
           paths = P.paths;
         }
 
-    pub starts_more : r ≡ false → AddedScores n m w₀ c₀ f₀ (k + 1) w' c' f'
+    pub starts_more : stopped r ≡ false → AddedScores n m w₀ c₀ f₀ (k + 1) w' c' f'
     starts_more e = added_more A l one e
 
-    pub starts_paths : r ≡ true → StartsPost n m w₀ c₀ f₀ w' c' f' true
-    starts_paths e =
+    pub starts_paths : stopped r ≡ true → (e' : TooManyPaths) → StartsPost n m w₀ c₀ f₀ w' c' f' (Err e')
+    starts_paths e e' =
         record {
           within = within_then A.within P.within;
           scored = λ q. absurd (false≢true (sym q));
           paths = added_paths A l one e;
         }
-
-pub starts_done : {n m : ℕ} {w₀ c₀ : List ℕ} {f₀ : List Float} {k : ℕ} {w c : List ℕ} {f : List Float} → AddedScores n m w₀ c₀ f₀ k w c f → k ≡ n → StartsPost n m w₀ c₀ f₀ w c f false
-starts_done {n} {m} {w₀} {c₀} {f₀} {k} {w} {c} {f} A e =
-    record {
-      within = A.within;
-      scored = λ q d es S C. subst (λ (i : ℕ). Scored n f (scores_after (graph_of n d es) i)) e (A.added d es S C);
-      paths = λ d es S. subst (λ (i : ℕ). some_exceeds path_limit (graph_of n d es) i ≡ false) e (A.paths d es S);
-    }

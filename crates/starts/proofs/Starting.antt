@@ -14,7 +14,7 @@ use Rattle.regions.proofs.Fronts.{list_long, front_by, front_none, front_then, f
 use Rattle.regions.proofs.Parts.{list_at_lem}
 use Rattle.graph.specs.Edges.{Graph}
 use Rattle.graph.specs.Fronts.{usual_fronts}
-use Rattle.graph.specs.Layout.{distances_at, queue_at, incoming_at, filled_at, predecessors_at}
+use Rattle.graph.specs.Layout.{distances_at, queue_at, incoming_at, filled_at}
 use Rattle.hops.specs.Hops.{unreached, dist, count, exceeds, path_limit}
 use Rattle.hops.specs.Search.{Found, TooMany, Forgotten}
 use Rattle.hops.proofs.Sums.{eq_or_ne}
@@ -31,11 +31,11 @@ use Rattle.predecessors.proofs.Holding.{slots_after}
 use Rattle.brandes.proofs.Accumulating.{SumsIn}
 use Rattle.brandes.proofs.Starts.{order_reached, accumulated, accumulated_front}
 use Rattle.brandes.proofs.Deltas.{delta_off, entered_none}
-use Rattle.starts.specs.Starts.{Within, Still, Scored}
+use Rattle.starts.specs.Starts.{tracks_at, Within, Still, Scored}
 
 module _ {g : Graph} {m s : ℕ} {w c : List ℕ} {f : List Float} (S : Still g m w c f)
-    {w1 c1 : List ℕ} {tail : ℕ} (stays : Stays g.nodes (distances_at g.nodes m) (incoming_at g.nodes m) (filled_at g.nodes m) (predecessors_at g.nodes m) w c w1 c1)
-    (R : Traced g path_limit s w1 c1 (distances_at g.nodes m) (queue_at g.nodes m) (incoming_at g.nodes m) (filled_at g.nodes m) (predecessors_at g.nodes m) tail) where
+    {w1 c1 : List ℕ} {tail : ℕ} (stays : Stays g.nodes (tracks_at g.nodes m) w c w1 c1)
+    (R : Traced g (tracks_at g.nodes m) s w1 c1 tail) where
   F : Found g path_limit s w1 c1 (distances_at g.nodes m) (queue_at g.nodes m) tail
   F = R.found
 
@@ -51,7 +51,7 @@ module _ {g : Graph} {m s : ℕ} {w c : List ℕ} {f : List Float} (S : Still g 
       high2 : (i : ℕ) → queue_at g.nodes m ≤ i → get_or w2 i 0 ≡ get_or w1 i 0
       high2 i l = X.kept i (λ k h e. omega (arith, (R.found.queued k h).0, R.found.space.apart))
 
-      pub release_pre : ReleasePre g.nodes tail (queue_at g.nodes m) (incoming_at g.nodes m) (filled_at g.nodes m) w2 f1
+      pub release_pre : ReleasePre (tracks_at g.nodes m) tail w2 f1
       release_pre =
           record {
             before = omega (arith, R.found.taken);
@@ -61,7 +61,7 @@ module _ {g : Graph} {m s : ℕ} {w c : List ℕ} {f : List Float} (S : Still g 
             queued = λ i l. omega (arith, high2 (queue_at g.nodes m + i) (omega arith), (R.found.queued i l).0);
           }
 
-      module _ {w3 : List ℕ} {f2 : List Float} (Y : Released g.nodes tail (queue_at g.nodes m) (incoming_at g.nodes m) (filled_at g.nodes m) w2 f1 w3 f2) where
+      module _ {w3 : List ℕ} {f2 : List Float} (Y : Released (tracks_at g.nodes m) tail w2 f1 w3 f2) where
         low3 : (i : ℕ) → i < filled_at g.nodes m → get_or w3 i 0 ≡ get_or w2 i 0
         low3 i l = Y.kept i (λ k h e. omega arith)
 
@@ -145,7 +145,7 @@ module _ {g : Graph} {m s : ℕ} {w c : List ℕ} {f : List Float} (S : Still g 
 
   -- ---- the accumulation of scores
 
-  module _ (f1 : List Float) (acc : f1 ≡ foldr (left_by g.nodes c1 (held_predecessors (incoming_at g.nodes m) (filled_at g.nodes m) (predecessors_at g.nodes m) w1) s) f (part w1 (queue_at g.nodes m) tail)) where
+  module _ (f1 : List Float) (acc : f1 ≡ foldr (left_by g.nodes c1 (held_predecessors (tracks_at g.nodes m) w1) s) f (part w1 (queue_at g.nodes m) tail)) where
     pub score_front : Front f (usual_fronts g.nodes m).floats f1
     score_front = front_wide (usual_fronts g.nodes m).floats (omega arith) (accumulated_front R f f1 acc)
 
@@ -175,7 +175,7 @@ module _ {g : Graph} {m s : ℕ} {w c : List ℕ} {f : List Float} (S : Still g 
         ∙ delta_off (λ v. double (count g s v)) (predecessors g s) s x (order g s) (λ u m y k p. order_reached R y (entered_mem g (dist g s) u (order g s) y k) (ap (dist g s) (sym p) ∙ e)) (sums (replicate g.nodes zero_f) (list_of (λ v. get_or f v nan) g.nodes))
         ∙ get_or-replicate g.nodes x zero_f nan h
 
-    pub scored_next : {w2 w3 : List ℕ} {f2 : List Float} → Released g.nodes tail (queue_at g.nodes m) (incoming_at g.nodes m) (filled_at g.nodes m) w2 f1 w3 f2
+    pub scored_next : {w2 w3 : List ℕ} {f2 : List Float} → Released (tracks_at g.nodes m) tail w2 f1 w3 f2
         → (scores : List Float) → Scored g.nodes f scores → Scored g.nodes f2 (from_start g s scores).scores
     scored_next Y scores C =
         record {
@@ -185,7 +185,7 @@ module _ {g : Graph} {m s : ℕ} {w c : List ℕ} {f : List Float} (S : Still g 
 
 -- a path count is above the limit
 module _ {g : Graph} {m : ℕ} {w c : List ℕ} {f : List Float} (S : Still g m w c f)
-    {w1 c1 : List ℕ} (stays : Stays g.nodes (distances_at g.nodes m) (incoming_at g.nodes m) (filled_at g.nodes m) (predecessors_at g.nodes m) w c w1 c1) where
+    {w1 c1 : List ℕ} (stays : Stays g.nodes (tracks_at g.nodes m) w c w1 c1) where
   pub within_paths : Within g.nodes m w c f w1 c1 f
   within_paths =
       record {

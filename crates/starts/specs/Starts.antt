@@ -1,5 +1,5 @@
 -- What holds in the workspace between two starts, and what the steps ask and leave. Definitions only.
-use Rattle.std.specs.Prelude.{◌≡◌, Bool, false, List, ℕ, ◌+◌, ◌*◌, ◌≤◌, ◌<◌, length, get_or, Float}
+use Rattle.std.specs.Prelude.{◌≡◌, Bool, true, false, List, ℕ, ◌+◌, ◌*◌, ◌≤◌, ◌<◌, length, get_or, Float, Result, Ok, Err}
 use Rattle.std.specs.Float.{nan}
 use Rattle.regions.specs.Region.{zero_f, Front, Frame}
 use Rattle.graph.specs.Edges.{Edge, Graph, edges_of}
@@ -7,10 +7,27 @@ use Rattle.graph.specs.Fronts.{usual_fronts}
 use Rattle.graph.specs.Pres.{Limits, Sound, Roomy}
 use Rattle.graph.specs.Layout.{distances_at, queue_at, incoming_at, filled_at, predecessors_at}
 use Rattle.rows.specs.Rows.{rows_front}
+use Rattle.hops.specs.declared.TooManyPaths.{TooManyPaths}
 use Rattle.hops.specs.Hops.{unreached, exceeds, path_limit}
-use Rattle.hops.specs.Search.{graph_of, Space, Fresh}
+use Rattle.hops.specs.Search.{places_at, graph_of, Space, Fresh}
+use Rattle.predecessors.specs.declared.Tracks.{Tracks}
 use Rattle.predecessors.specs.Tracks.{leading, Slots, NoEntries}
 use Rattle.brandes.specs.Shares.{from_start, scores_after, some_exceeds}
+
+-- where the searches of a call with n nodes and m edges work
+abbrev pub tracks_at : ℕ → ℕ → Tracks
+tracks_at n m =
+    record {
+      places = places_at n m path_limit;
+      first = incoming_at n m;
+      last = filled_at n m;
+      base = predecessors_at n m;
+    }
+
+-- whether a path count above the limit stopped a step
+abbrev pub stopped : {Values : Type 0} → Result Values TooManyPaths → Bool
+stopped (Ok v) = false
+stopped (Err e) = true
 
 -- w, c and f differ from w₀, c₀ and f₀ in the fronts of a graph with n nodes and m edges only
 pub record Within (n m : ℕ) (w₀ c₀ : List ℕ) (f₀ : List Float) (w c : List ℕ) (f : List Float) : Type 0 where
@@ -22,12 +39,12 @@ pub record Within (n m : ℕ) (w₀ c₀ : List ℕ) (f₀ : List Float) (w c : 
 pub record Still (g : Graph) (m : ℕ) (w c : List ℕ) (f : List Float) : Type 0 where
   pub few : g.nodes < unreached
   pub space : (s : ℕ) → s < g.nodes → Space g s w c (distances_at g.nodes m) (queue_at g.nodes m)
-  pub slots : Slots g w (queue_at g.nodes m) (incoming_at g.nodes m) (filled_at g.nodes m) (predecessors_at g.nodes m)
+  pub slots : Slots g (tracks_at g.nodes m) w
   -- there are places for at most 2m predecessor entries
   pub top : get_or w (incoming_at g.nodes m + g.nodes) 0 ≤ 2 * m
   -- no node has a distance, a count, a predecessor entry or a delta
   pub fresh : Fresh g.nodes w c (distances_at g.nodes m)
-  pub empty : NoEntries g.nodes w (incoming_at g.nodes m) (filled_at g.nodes m)
+  pub empty : NoEntries g.nodes (tracks_at g.nodes m) w
   pub floats : g.nodes + g.nodes ≤ length f
   pub deltas : (v : ℕ) → v < g.nodes → get_or f (g.nodes + v) nan ≡ zero_f
 
@@ -47,11 +64,11 @@ pub record StartPre (n m s : ℕ) (w c : List ℕ) (f : List Float) : Type 0 whe
   pub start : s < n
 
 -- what a start leaves, of every graph whose rows stand in w: its scores added, or some path count above the limit
-pub record StartPost (n m s : ℕ) (w c : List ℕ) (f : List Float) (w' c' : List ℕ) (f' : List Float) (r : Bool) : Type 0 where
+pub record StartPost (n m s : ℕ) (w c : List ℕ) (f : List Float) (w' c' : List ℕ) (f' : List Float) (r : Result (Unit {0}) TooManyPaths) : Type 0 where
   pub within : Within n m w c f w' c' f'
-  pub still : r ≡ false → (directed : Bool) (es : List Edge) → Still (graph_of n directed es) m w c f → Still (graph_of n directed es) m w' c' f'
-  pub scored : r ≡ false → (directed : Bool) (es : List Edge) → Still (graph_of n directed es) m w c f → (scores : List Float) → Scored n f scores → Scored n f' (from_start (graph_of n directed es) s scores).scores
-  pub paths : (directed : Bool) (es : List Edge) → Still (graph_of n directed es) m w c f → exceeds path_limit (graph_of n directed es) s ≡ r
+  pub still : stopped r ≡ false → (directed : Bool) (es : List Edge) → Still (graph_of n directed es) m w c f → Still (graph_of n directed es) m w' c' f'
+  pub scored : stopped r ≡ false → (directed : Bool) (es : List Edge) → Still (graph_of n directed es) m w c f → (scores : List Float) → Scored n f scores → Scored n f' (from_start (graph_of n directed es) s scores).scores
+  pub paths : (directed : Bool) (es : List Edge) → Still (graph_of n directed es) m w c f → exceeds path_limit (graph_of n directed es) s ≡ stopped r
 
 -- what all starts ask: there is a graph whose rows stand in w, between two starts
 pub record StartsPre (n m : ℕ) (w c : List ℕ) (f : List Float) : Type 0 where
@@ -61,10 +78,10 @@ pub record StartsPre (n m : ℕ) (w c : List ℕ) (f : List Float) : Type 0 wher
   pub limits : Limits n m
 
 -- what they leave, of every graph whose rows stand in w: the scores after the last start, or some path count above the limit
-pub record StartsPost (n m : ℕ) (w c : List ℕ) (f : List Float) (w' c' : List ℕ) (f' : List Float) (r : Bool) : Type 0 where
+pub record StartsPost (n m : ℕ) (w c : List ℕ) (f : List Float) (w' c' : List ℕ) (f' : List Float) (r : Result (Unit {0}) TooManyPaths) : Type 0 where
   pub within : Within n m w c f w' c' f'
-  pub scored : r ≡ false → (directed : Bool) (es : List Edge) → Still (graph_of n directed es) m w c f → Scored n f (scores_after (graph_of n directed es) 0) → Scored n f' (scores_after (graph_of n directed es) n)
-  pub paths : (directed : Bool) (es : List Edge) → Still (graph_of n directed es) m w c f → some_exceeds path_limit (graph_of n directed es) n ≡ r
+  pub scored : stopped r ≡ false → (directed : Bool) (es : List Edge) → Still (graph_of n directed es) m w c f → Scored n f (scores_after (graph_of n directed es) 0) → Scored n f' (scores_after (graph_of n directed es) n)
+  pub paths : (directed : Bool) (es : List Edge) → Still (graph_of n directed es) m w c f → some_exceeds path_limit (graph_of n directed es) n ≡ stopped r
 
 -- ---- the beginning
 

@@ -15,7 +15,7 @@ use Rattle.regions.proofs.Fronts.{list_long}
 use Rattle.regions.proofs.Parts.{list_at_lem, over_at}
 use Rattle.answers.specs.declared.Answer.TheVariants.{Paths}
 use Rattle.answers.specs.declared.Answer.{Answer}
-use Rattle.answers.specs.Answers.{Said, done, refusal, said_plain, refuses, refused_with}
+use Rattle.answers.specs.Answers.{Said, done, refusal, said_by, refuses, refused_with}
 use Rattle.graph.specs.Edges.{Edge, edge, edges_from, edges_of, Graph}
 use Rattle.graph.specs.Given.{Given, given}
 use Rattle.graph.specs.Left.{Left, left, wiped, late_refusal, untouched, unless_refused}
@@ -66,10 +66,10 @@ module _ {e : Slices} {a : ℕ} (S : Survey e a) where
   unfolding survey_outcome lent_to short
   told =
       done_only lent_to (first_refusal (plain_tests lent_to true (leb e.nodes a) short)) (exceeds path_limit (graph_of_slices e) a) (surveyed (graph_of_slices e) a S.lent)
-      (left (said_plain S.returned) (results S.distances S.counts) S.w32_left S.w64_left S.wf_left) S.call (ap said_plain S.done)
+      (left (said_by S.returned) (results S.distances S.counts) S.w32_left S.w64_left S.wf_left) S.call (ap said_by S.done)
 
   nothing : Passed (plain_tests lent_to true (leb e.nodes a) short)
-  nothing = passed (plain_tests lent_to true (leb e.nodes a) short) refl refl told.0
+  nothing = passed (plain_tests lent_to true (leb e.nodes a) short) {v = tt} (rw told.0)
 
   -- the start is a node of a valid graph
   pub start_node : a < e.nodes

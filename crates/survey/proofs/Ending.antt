@@ -1,6 +1,6 @@
 -- How `survey` ends: what its steps leave is the outcome. Assumes nothing.
 use mathlib.Core.Path.{◌≡◌, sym, ap, ap₂, ◌∙◌, subst}
-use mathlib.Core.Bool.{Bool, true, false, cond}
+use mathlib.Core.Bool.{Bool, true, cond}
 use mathlib.Core.List.{List}
 use Prim.Native.Nat.{ℕ, ◌≤◌, ◌<◌}
 use native.Mathlib.Nat.{zero-add}
@@ -13,11 +13,11 @@ use Rattle.regions.specs.Region.{Front, over, list_of, part, cleared}
 use Rattle.regions.proofs.Fronts.{cleared_after, front_then, front_wide}
 use Rattle.regions.proofs.Parts.{part_is}
 use Rattle.graph.specs.declared.Fronts.{Fronts}
-use Rattle.answers.specs.declared.Plain.{Plain}
-use Rattle.answers.specs.declared.Plain.TheVariants as plain
+use Rattle.std.specs.Prelude.{Result, Ok, Err}
 use Rattle.answers.specs.declared.Answer.{Answer}
 use Rattle.answers.specs.declared.Answer.TheVariants.{Paths}
-use Rattle.answers.specs.Answers.{Said, done, said_plain, refuses, refused_with}
+use Rattle.answers.specs.declared.Refusal.{Refusal}
+use Rattle.answers.specs.Answers.{Said, done, said_by, refused_if, refused_with}
 use Rattle.graph.specs.Fronts.{usual_fronts}
 use Rattle.graph.specs.Given.{Given, edges_in, graph_in}
 use Rattle.graph.specs.Layout.{distances_at, queue_at}
@@ -28,8 +28,7 @@ use Rattle.graph.proofs.Checks.{or_left, or_right}
 use Rattle.graph.proofs.Refusals.{passed, plain_tests, plain_ready, plain_fits, plain_start}
 use Rattle.graph.proofs.Left.{refused, went_on}
 use Rattle.rows.specs.Rows.{BuildPre, Built}
-use Rattle.hops.specs.declared.Reached.{Reached}
-use Rattle.hops.specs.declared.Reached.TheVariants as reached
+use Rattle.hops.specs.declared.TooManyPaths.{TooManyPaths}
 use Rattle.hops.specs.Hops.{Valid, dist, count, exceeds, path_limit}
 use Rattle.hops.specs.Search.{RowsOf, Found, TooMany, Ended}
 use Rattle.hops.proofs.Limits.{within_limit, exceeds_exactly}
@@ -51,17 +50,20 @@ module _ (s : ℕ) (g : Given Results) where
   abbrev did : Left (Said (Unit {0})) Results
   did = cond (exceeds path_limit (graph_in g) s) (late_refusal g Paths) (wiped g (done tt) (surveyed (graph_in g) s g.results))
 
-  -- a is what the check answered, with t for "too short", and b whether that refuses
-  module _ {t b : Bool} {a : Answer} (et : t ≡ short) (ea : a ≡ plain_refusal n g.from g.to g.weight true (leb n s) t (length g.w32) (length g.w64) (length g.wf)) (eb : b ≡ refuses a) where
-    checked : a ≡ first_refusal (plain_tests g true (leb n s) short)
-    checked = ea ∙ ap (λ (x : Bool). plain_refusal n g.from g.to g.weight true (leb n s) x (length g.w32) (length g.w64) (length g.wf)) et
+  -- t is whether a result slice is too short, and f the lengths of the workspace
+  module _ {t : Bool} {f : Fronts} (et : t ≡ short) (ef : (f.narrow ≡ length g.w32) × (f.wide ≡ length g.w64) × (f.floats ≡ length g.wf)) where
+    abbrev found_first : Answer
+    found_first = plain_refusal n g.from g.to g.weight true (leb n s) t f.narrow f.wide f.floats
 
-    pub refused_survey : b ≡ true → untouched g (refused_with a) ≡ survey_outcome s g
+    checked : found_first ≡ first_refusal (plain_tests g true (leb n s) short)
+    checked = rw (et, ef.0, ef.1, ef.2)
+
+    pub refused_survey : {x : Result (Unit {0}) Refusal} {r : Refusal} → x ≡ Err r → Err r ≡ refused_if found_first → untouched g (said_by x) ≡ survey_outcome s g
     unfolding survey_outcome
-    refused_survey e = refused g (plain_tests g true (leb n s) short) did checked eb e
+    refused_survey ex e = refused g (plain_tests g true (leb n s) short) did ex (e ∙ ap refused_if checked)
 
-    pub passed_survey : b ≡ false → Passed (plain_tests g true (leb n s) short)
-    passed_survey e = passed (plain_tests g true (leb n s) short) checked eb e
+    pub passed_survey : {v : Unit {0}} → Ok v ≡ refused_if found_first → Passed (plain_tests g true (leb n s) short)
+    passed_survey e = passed (plain_tests g true (leb n s) short) (e ∙ ap refused_if checked)
 
   module _ (p : Passed (plain_tests g true (leb n s) short)) where
     pub ready_survey : Ready g
@@ -104,7 +106,7 @@ module _ (s : ℕ) (g : Given Results) where
           }
 
       -- and what the search left
-      module _ (w2 c2 : List ℕ) (r : Reached) (S : Surveyed n m s w1 g.w64 w2 c2 r) where
+      module _ (w2 c2 : List ℕ) (r : Result ℕ TooManyPaths) (S : Surveyed n m s w1 g.w64 w2 c2 r) where
         pub write_pre : WritePre n m w2 c2 g.results.distances g.results.counts
         write_pre =
             record {
@@ -121,7 +123,7 @@ module _ (s : ℕ) (g : Given Results) where
         pub wipe_pre : (f : Fronts) → f ≡ usual_fronts n m → Roomy f (length w2) (length c2) (length g.wf)
         wipe_pre f e = rw e record { r32 = omega (arith, ready_survey.roomy.r32, front32.long); r64 = omega (arith, ready_survey.roomy.r64, S.wide.long); rf = ready_survey.roomy.rf }
 
-        module _ (said : Plain) (d' k' : List ℕ) (w3 c3 : List ℕ) (f3 : List Float) {f : Fronts} (ef : f ≡ usual_fronts n m) (zf : Wiped f w2 c2 g.wf w3 c3 f3) where
+        module _ (said : Result (Unit {0}) Refusal) (d' k' : List ℕ) (w3 c3 : List ℕ) (f3 : List Float) {f : Fronts} (ef : f ≡ usual_fronts n m) (zf : Wiped f w2 c2 g.wf w3 c3 f3) where
           z : Wiped (usual_fronts n m) w2 c2 g.wf w3 c3 f3
           z = subst (λ (x : Fronts). Wiped x w2 c2 g.wf w3 c3 f3) ef zf
 
@@ -132,30 +134,30 @@ module _ (s : ℕ) (g : Given Results) where
           e64 = z.p64 ∙ cleared_after S.wide
 
           -- the results of a search that is over
-          found : (t : ℕ) → Found (graph_in g) path_limit s w2 c2 (distances_at n m) (queue_at n m) t → said ≡ plain.Done
+          found : (t : ℕ) → Found (graph_in g) path_limit s w2 c2 (distances_at n m) (queue_at n m) t → said ≡ Ok tt
               → d' ≡ over (part w2 (distances_at n m) n) g.results.distances → k' ≡ over (part c2 0 n) g.results.counts
-              → left (said_plain said) (results d' k') w3 c3 f3 ≡ did
+              → left (said_by said) (results d' k') w3 c3 f3 ≡ did
           unfolding surveyed
           found t F es ed ek =
               let pd : part w2 (distances_at n m) n ≡ list_of (dist (graph_in g) s) n = part_is 0 w2 (distances_at n m) n (dist (graph_in g) s) write_pre.distances F.dists in
               let pk : part c2 0 n ≡ list_of (count (graph_in g) s) n = part_is 0 c2 0 n (count (graph_in g) s) (omega (arith, write_pre.counts)) (λ i l. ap (λ (x : ℕ). get_or c2 x 0) (zero-add i) ∙ F.ways i l) in
               let qd : d' ≡ over (list_of (dist (graph_in g) s) n) g.results.distances = ed ∙ ap (λ (l : List ℕ). over l g.results.distances) pd in
               let qk : k' ≡ over (list_of (count (graph_in g) s) n) g.results.counts = ek ∙ ap (λ (l : List ℕ). over l g.results.counts) pk in
-              let l : left (said_plain said) (results d' k') w3 c3 f3 ≡ wiped g (done tt) (surveyed (graph_in g) s g.results) = cc (es, qd, qk, e32, e64, z.pf) in
+              let l : left (said_by said) (results d' k') w3 c3 f3 ≡ wiped g (done tt) (surveyed (graph_in g) s g.results) = cc (es, qd, qk, e32, e64, z.pf) in
               l ∙ sym (ap (λ (b : Bool). cond b (late_refusal g Paths) (wiped g (done tt) (surveyed (graph_in g) s g.results))) (within_limit path_limit (graph_in g) s F.small))
 
           -- a count that exceeds the limit
-          paths : TooMany (graph_in g) path_limit s → said ≡ plain.Refused (record { answer = Paths }) → d' ≡ g.results.distances → k' ≡ g.results.counts → left (said_plain said) (results d' k') w3 c3 f3 ≡ did
+          paths : TooMany (graph_in g) path_limit s → said ≡ Err (record { answer = Paths }) → d' ≡ g.results.distances → k' ≡ g.results.counts → left (said_by said) (results d' k') w3 c3 f3 ≡ did
           paths T es ed ek =
               let er : results d' k' ≡ g.results = ap₂ results ed ek in
               let l : left (refused_with {Values = Unit {0}} Paths) (results d' k') w3 c3 f3 ≡ late_refusal g Paths = cc (er, e32, e64, z.pf) in
-              ap (λ (q : Plain). left (said_plain q) (results d' k') w3 c3 f3) es ∙ l ∙ sym (ap (λ (b : Bool). cond b (late_refusal g Paths) (wiped g (done tt) (surveyed (graph_in g) s g.results))) ((exceeds_exactly path_limit (graph_in g) s).1 T))
+              ap (λ (q : Result (Unit {0}) Refusal). left (said_by q) (results d' k') w3 c3 f3) es ∙ l ∙ sym (ap (λ (b : Bool). cond b (late_refusal g Paths) (wiped g (done tt) (surveyed (graph_in g) s g.results))) ((exceeds_exactly path_limit (graph_in g) s).1 T))
 
-          either : (r : Reached) → Ended (graph_in g) path_limit s (distances_at n m) (queue_at n m) w2 c2 r → Written n m w2 c2 g.results.distances g.results.counts d' k' r said
-              → left (said_plain said) (results d' k') w3 c3 f3 ≡ did
-          either (reached.Nodes t) F W = found t F W.0 W.1 W.2
-          either reached.Paths T W = paths T W.0 W.1 W.2
+          either : (r : Result ℕ TooManyPaths) → Ended (graph_in g) path_limit s (distances_at n m) (queue_at n m) w2 c2 r → Written n m w2 c2 g.results.distances g.results.counts d' k' r said
+              → left (said_by said) (results d' k') w3 c3 f3 ≡ did
+          either (Ok t) F W = found t F W.0 W.1 W.2
+          either (Err e) T W = paths T W.0 W.1 W.2
 
-          pub ended : Written n m w2 c2 g.results.distances g.results.counts d' k' r said → left (said_plain said) (results d' k') w3 c3 f3 ≡ survey_outcome s g
+          pub ended : Written n m w2 c2 g.results.distances g.results.counts d' k' r said → left (said_by said) (results d' k') w3 c3 f3 ≡ survey_outcome s g
           unfolding survey_outcome
           ended W = either r (S.ended g.directed (edges_in g) ok rows) W ∙ went_on g (plain_tests g true (leb n s) short) did p

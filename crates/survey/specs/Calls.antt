@@ -1,8 +1,7 @@
 -- A call of `survey` that answered DONE, and what it left in the result slices. Definitions only.
-use Rattle.std.specs.Prelude.{◌≡◌, Bool, List, ℕ, Float}
-use Rattle.answers.specs.declared.Plain.{Plain}
-use Rattle.answers.specs.declared.Plain.TheVariants as plain
-use Rattle.answers.specs.Answers.{said_plain}
+use Rattle.std.specs.Prelude.{◌≡◌, Bool, List, ℕ, Float, Result, Ok}
+use Rattle.answers.specs.declared.Refusal.{Refusal}
+use Rattle.answers.specs.Answers.{said_by}
 use Rattle.graph.specs.Given.{given}
 use Rattle.graph.specs.Left.{left}
 use Rattle.survey.specs.Survey.{Results, results, survey_outcome}
@@ -26,11 +25,11 @@ pub record Survey (e : Slices) (start : ℕ) : Type 0 where
   pub w32 : List ℕ
   pub w64 : List ℕ
   pub wf : List Float
-  pub returned : Plain
+  pub returned : Result (Unit {0}) Refusal
   pub distances : List ℕ
   pub counts : List ℕ
   pub w32_left : List ℕ
   pub w64_left : List ℕ
   pub wf_left : List Float
-  pub call : left (said_plain returned) (results distances counts) w32_left w64_left wf_left ≡ survey_outcome start (given e.nodes e.directed e.from e.to e.weight lent w32 w64 wf)
-  pub done : returned ≡ plain.Done
+  pub call : left (said_by returned) (results distances counts) w32_left w64_left wf_left ≡ survey_outcome start (given e.nodes e.directed e.from e.to e.weight lent w32 w64 wf)
+  pub done : returned ≡ Ok tt

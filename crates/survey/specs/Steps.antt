@@ -1,15 +1,13 @@
 -- What the steps of the survey ask and leave. Definitions only.
-use Rattle.std.specs.Prelude.{◌≡◌, Bool, List, ℕ, ◌+◌, ◌≤◌, ◌<◌, length}
+use Rattle.std.specs.Prelude.{◌≡◌, Bool, List, ℕ, ◌+◌, ◌≤◌, ◌<◌, length, Result, Ok, Err}
 use Rattle.regions.specs.Region.{Front, over, part}
-use Rattle.answers.specs.declared.Plain.{Plain}
-use Rattle.answers.specs.declared.Plain.TheVariants as plain
 use Rattle.answers.specs.declared.Answer.TheVariants.{Paths}
+use Rattle.answers.specs.declared.Refusal.{Refusal}
 use Rattle.graph.specs.Edges.{Edge}
 use Rattle.graph.specs.Pres.{Limits}
 use Rattle.graph.specs.Fronts.{usual_fronts}
 use Rattle.graph.specs.Layout.{distances_at, queue_at}
-use Rattle.hops.specs.declared.Reached.{Reached}
-use Rattle.hops.specs.declared.Reached.TheVariants as reached
+use Rattle.hops.specs.declared.TooManyPaths.{TooManyPaths}
 use Rattle.hops.specs.Hops.{Valid, path_limit}
 use Rattle.hops.specs.Search.{graph_of, RowsOf, Ended}
 
@@ -25,7 +23,7 @@ pub record HeldRows (n m s : ℕ) (w c : List ℕ) : Type 0 where
   pub counts : (usual_fronts n m).wide ≤ length c
 
 -- the search from s over them, of every graph whose rows they are
-pub record Surveyed (n m s : ℕ) (w c w' c' : List ℕ) (r : Reached) : Type 0 where
+pub record Surveyed (n m s : ℕ) (w c w' c' : List ℕ) (r : Result ℕ TooManyPaths) : Type 0 where
   pub narrow : Front w (usual_fronts n m).narrow w'
   pub wide : Front c (usual_fronts n m).wide c'
   pub ended : (directed : Bool) (es : List Edge) → Valid (graph_of n directed es) → RowsOf (graph_of n directed es) w (distances_at n m)
@@ -40,6 +38,6 @@ pub record WritePre (n m : ℕ) (w c d k : List ℕ) : Type 0 where
   pub fits_counts : n ≤ length k
 
 -- the results are written, unless a count exceeds the limit
-abbrev pub Written : (n m : ℕ) (w c d k d' k' : List ℕ) → Reached → Plain → Type 0
-Written n m w c d k d' k' (reached.Nodes t) r = (r ≡ plain.Done) × (d' ≡ over (part w (distances_at n m) n) d) × (k' ≡ over (part c 0 n) k)
-Written n m w c d k d' k' reached.Paths r = (r ≡ plain.Refused (record { answer = Paths })) × (d' ≡ d) × (k' ≡ k)
+abbrev pub Written : (n m : ℕ) (w c d k d' k' : List ℕ) → Result ℕ TooManyPaths → Result (Unit {0}) Refusal → Type 0
+Written n m w c d k d' k' (Ok t) r = (r ≡ Ok tt) × (d' ≡ over (part w (distances_at n m) n) d) × (k' ≡ over (part c 0 n) k)
+Written n m w c d k d' k' (Err e) r = (r ≡ Err (record { answer = Paths })) × (d' ≡ d) × (k' ≡ k)

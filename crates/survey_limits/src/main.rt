@@ -4,6 +4,8 @@
 
 ghost use Rattle.std.specs.Prelude.{◌≤◌, ◌<◌, length};
 
+use answers::Refusal;
+use graph::Graph;
 use std::io;
 
 const NODES: usize = 4097;
@@ -42,12 +44,10 @@ fn doubled(from: &mut [u32], to: &mut [u32])
     requires in_bounds { 106 ≤ length from.old }
     requires in_bounds_2 { 106 ≤ length to.old }
 {
-    let mut i = 0;
-    while i < 106 {
+    for i in 0..106 {
         let v = i as u32 / 2;
         from[i] = v;
         to[i] = v + 1;
-        i += 1;
     }
 }
 
@@ -56,11 +56,9 @@ fn bypass(from: &mut [u32], to: &mut [u32])
     requires in_bounds { 159 ≤ length from.old }
     requires in_bounds_2 { 159 ≤ length to.old }
 {
-    let mut i = 106;
-    while i < 159 {
+    for i in 106..159 {
         from[i] = i as u32 - 53;
         to[i] = i as u32 - 52;
-        i += 1;
     }
     from[106] = 0;
     to[158] = 53;
@@ -71,23 +69,21 @@ fn chain(from: &mut [u32], to: &mut [u32])
     requires in_bounds { 4096 ≤ length from.old }
     requires in_bounds_2 { 4096 ≤ length to.old }
 {
-    let mut i = 0;
-    while i < EDGES {
+    for i in 0..EDGES {
         from[i] = i as u32;
         to[i] = i as u32 + 1;
-        i += 1;
     }
 }
 
 // The survey from node 0 of the directed graph of the first edges, and what it gives the node `end`.
-fn show(
+fn show<'a>(
     rt: &impl Print,
     nodes: usize,
     edges: usize,
     end: usize,
-    from: &[u32],
-    to: &[u32],
-    weight: &[f64],
+    from: &'a [u32],
+    to: &'a [u32],
+    weight: &'a [f64],
 ) -> io::Result<()>
     requires edges_in_bounds { edges ≤ length from.now }
     requires edges_in_bounds_2 { edges ≤ length to.now }
@@ -99,12 +95,15 @@ fn show(
     let mut w32 = [0u32; NARROW];
     let mut w64 = [0u64; WIDE];
     let mut wf = [0.0; FLOATS];
-    let said = survey::survey(
+    let graph = Graph {
         nodes,
-        true,
-        &from[..edges],
-        &to[..edges],
-        &weight[..edges],
+        directed: true,
+        from: &from[..edges],
+        to: &to[..edges],
+        weight: &weight[..edges],
+    };
+    let said = survey::survey(
+        graph,
         0,
         &mut distances,
         &mut counts,
@@ -112,14 +111,16 @@ fn show(
         &mut w64,
         &mut wf,
     );
-    print(rt, answers::plain_number(said), distances[end], counts[end])
+    print(rt, said, distances[end], counts[end])
 }
 
 // The answer and, if it is DONE, the distance and the count.
-fn print(rt: &impl Print, answer: u32, distance: u32, count: u64) -> io::Result<()> {
-    print!(rt; " {answer}")?;
-    if answer == 0 {
-        print!(rt; ", distance {distance}, count {count}")?;
+fn print(rt: &impl Print, said: Result<(), Refusal>, distance: u32, count: u64) -> io::Result<()> {
+    match said {
+        Ok(()) => println!(rt; " 0, distance {distance}, count {count}"),
+        Err(refusal) => {
+            let answer = u32::from(refusal.answer);
+            println!(rt; " {answer}")
+        }
     }
-    println!(rt)
 }

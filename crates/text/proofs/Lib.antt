@@ -1,6 +1,5 @@
 pub mod Numbers
 pub mod Words
-pub mod Patterns
 pub mod Stores
 pub mod Numerals
 pub mod RoundTrips

@@ -51,3 +51,9 @@ count_long (suc m) v = either (ltb v 10) (count_long m (v / 10))
     either : (t : Bool) → count_in m (v / 10) ≤ m + 1 → cond t 1 (count_in m (v / 10) + 1) ≤ suc m + 1
     either true h = omega arith
     either false h = omega arith
+
+-- what a loop that writes digits from the last one asks
+pub ruleset written_back = (last_digit, no_digits)
+
+-- what a loop that counts digits asks
+pub ruleset counts = (one_digit, no_more, one_more)

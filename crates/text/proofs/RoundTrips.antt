@@ -11,7 +11,9 @@ use native.Mathlib.Numerals.{add-one}
 use lib.ListN.{length, get_or, get_or-append}
 use lib.Dec.{ltb}
 use borrow.Author.Tests.{lt-ltb, le-ltb, ltb-true, ltb-false, eq-eqb}
-use Rattle.text.specs.declared.Number.TheVariants.{Is}
+use Rattle.std.specs.Prelude.{Some}
+use Rattle.std.specs.List.{slice_get}
+use Rattle.std.proofs.lemmas.Option.{slice_get-get_or}
 use Rattle.text.specs.Text.{digit_of, digits_from, decimal_of, bits_of}
 use Rattle.text.specs.Written.{digit_byte, digits_text, count_in, decimal_text, bits_text}
 use Rattle.text.proofs.Numbers.{is_decimal, is_letter, plain, nought}
@@ -25,14 +27,14 @@ one_digit_or_more v = go (ltb v 10) refl
     go false e = inr (ltb-false v 10 e)
 
 -- a digit's byte is worth that digit
-digit_read_back : (d : ℕ) → d < 16 → digit_of (digit_byte d) ≡ d
+digit_read_back : (d : ℕ) → d < 16 → digit_of (digit_byte d) ≡ Some d
 digit_read_back d h = ⊎_elim small large (one_digit_or_more d)
   where
-    small : d < 10 → digit_of (digit_byte d) ≡ d
-    small k = rw (lt-ltb d 10 k) (is_decimal (48 + d) (omega arith) (omega arith) ∙ omega arith)
+    small : d < 10 → digit_of (digit_byte d) ≡ Some d
+    small k = rw (lt-ltb d 10 k) (is_decimal (48 + d) d (omega arith) (omega arith) (omega arith))
 
-    large : 10 ≤ d → digit_of (digit_byte d) ≡ d
-    large k = rw (le-ltb d 10 k) (is_letter (87 + d) (omega arith) (omega arith) ∙ omega arith)
+    large : 10 ≤ d → digit_of (digit_byte d) ≡ Some d
+    large k = rw (le-ltb d 10 k) (is_letter (87 + d) d (omega arith) (omega arith) (omega arith))
 
 -- one digit after v
 one_read : (base v d : ℕ) (rest : List ℕ) → d < base → base ≤ 16 → digits_from base v (digit_byte d ∷ rest) ≡ digits_from base (v * base + d) rest
@@ -57,7 +59,7 @@ digits_read base (suc n) v rest p k h =
     ∙ ap (λ (u : ℕ). digits_from base u rest) (div-add-mod' v base)
 
 -- .. and nothing follows
-all_read : (base n v : ℕ) → 0 < base → base ≤ 16 → v < base ^ n → v < 2 ^ 64 → digits_from base 0 (digits_text base n v) ≡ Is v
+all_read : (base n v : ℕ) → 0 < base → base ≤ 16 → v < base ^ n → v < 2 ^ 64 → digits_from base 0 (digits_text base n v) ≡ Some v
 unfolding digits_from
 all_read base n v p k h f =
     ap (λ (s : List ℕ). digits_from base 0 s) (sym (append-nil (digits_text base n v)))
@@ -108,20 +110,21 @@ first_above (suc m) v h p =
     (one_digit_or_more v)
 
 -- Any 64 bits, printed as 16 hexadecimal digits, are read back as those bits.
-pub bits_read_back : (b : ℕ) → b < 2 ^ 64 → bits_of (bits_text b) ≡ Is b
+pub bits_read_back : (b : ℕ) → b < 2 ^ 64 → bits_of (bits_text b) ≡ Some b
 unfolding bits_of
 bits_read_back b h = rw (eq-eqb (length (bits_text b)) 16 (digits_long 16 16 b)) (all_read 16 16 b (omega arith) (omega arith) h h)
 
 -- Any number below 2^64, printed as a decimal, is read back as that number.
-pub decimal_read_back : (v : ℕ) → v < 2 ^ 64 → decimal_of (decimal_text v) ≡ Is v
+pub decimal_read_back : (v : ℕ) → v < 2 ^ 64 → decimal_of (decimal_text v) ≡ Some v
 unfolding digits_text count_in
 decimal_read_back v h = ⊎_elim none some (eq-zero-or-pos v)
   where
-    none : v ≡ 0 → decimal_of (decimal_text v) ≡ Is v
+    none : v ≡ 0 → decimal_of (decimal_text v) ≡ Some v
     none e = rw e (nought (decimal_text 0) refl refl)
 
-    some : 0 < v → decimal_of (decimal_text v) ≡ Is v
+    some : 0 < v → decimal_of (decimal_text v) ≡ Some v
     some p =
         let l : v < 10 ^ 20 = omega arith in
-        plain (decimal_text v) (λ z. omega (arith, digits_long 10 (count_in 19 v) v, counted 19 v)) (λ e. omega (arith, first_above 19 v l p))
+        let first : slice_get (decimal_text v) 0 ≡ Some (get_or (decimal_text v) 0 0) = slice_get-get_or (decimal_text v) 0 0 (omega (arith, digits_long 10 (count_in 19 v) v, counted 19 v)) in
+        plain (decimal_text v) first (λ e. omega (arith, first_above 19 v l p))
         ∙ all_read 10 (count_in 19 v) v (omega arith) (omega arith) (counted_hold 19 v l) h

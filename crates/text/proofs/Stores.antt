@@ -1,13 +1,15 @@
 -- Laws of runs of stores: one run after another, and one store after a run.
 -- Assumes nothing.
 use mathlib.Core.Path.{◌≡◌, refl, sym, ap, ◌∙◌}
-use mathlib.Core.List.{List, [], ◌∷◌, ◌++◌}
-use Prim.Native.Nat.{ℕ, suc, ◌+◌, ◌<◌, ◌≤◌}
+use mathlib.Core.List.{List, [], ◌∷◌, ◌++◌, append_assoc}
+use Prim.Native.Nat.{ℕ, suc, ◌+◌, ◌≤◌}
 use native.Mathlib.Nat.{add-zero, add-suc, suc-add}
-use native.Mathlib.Numerals.{add-one}
 use native.Mathlib.Omega.{arith}
-use lib.ListN.{length-append, length, get_or, drop, set, drop_of_length-le}
-use lib.Seq.{sets, set_comm, drop-cons}
+use lib.ListN.{length-append, length, take, drop, set}
+use lib.Seq.{sets, set_comm}
+use borrow.Rule.Slice.PartMut.{put_mid}
+use Rattle.std.proofs.lemmas.List.Edits.{sets-eq}
+use Rattle.std.proofs.Common.{drop-drop}
 use Rattle.text.specs.Written.{Written}
 
 pub then : {A : Type 0} (l : List A) (i : ℕ) (a b : List A) → sets (sets l i a) (i + length a) b ≡ sets l i (a ++ b)
@@ -32,9 +34,6 @@ and_then {a} {b} {before} {mid} {after} {at} {next} {end} p q =
 pub nothing : (before : List ℕ) (at : ℕ) → Written [] before at before at
 nothing before at = record { next_is = omega arith; after_is = refl }
 
--- a word, byte by byte
-pub one_byte : (l : List ℕ) (at i : ℕ) (word : List ℕ) → i < length word → sets l (at + i) (drop i word) ≡ sets (set l (at + i) (get_or word i 0)) (at + (i + 1)) (drop (i + 1) word)
-one_byte l at i word h = rw (add-one i, drop-cons word i 0 h, add-suc at i)
-
-pub no_byte : (l : List ℕ) (at i : ℕ) (word : List ℕ) → length word ≤ i → sets l (at + i) (drop i word) ≡ l
-no_byte l at i word h = rw (drop_of_length-le word h)
+-- a word copied over the part of a text that it fills
+pub pasted : (l part word : List ℕ) (at k : ℕ) → part ≡ word → k ≡ length word → at + length word ≤ length l → put_mid at k l part ≡ sets l at word
+pasted l part word at k e n h = rw (e, n, sets-eq word l at h) (rw drop-drop (sym (append_assoc (take at l) word (drop (at + length word) l))))

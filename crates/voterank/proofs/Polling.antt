@@ -1,6 +1,7 @@
 -- Elections in the lent slices: what they hold after k elections is the poll of the rule. Assumes nothing.
 use Rattle.std.proofs.Common.{◌≡◌, ℕ, zero, suc, ◌+◌, ◌-◌, ◌*◌, ◌<◌, ◌≤◌, Bool, true, false, cond, List, [], ◌∷◌, ◌++◌, length, get_or, take, set, sym, refl, ap, ◌∙◌, ⊎_elim, add-one, arith, length-take, get_or-take, take-suc-set, ext_get_or}
 use mathlib.Core.List.{foldl}
+use lib.Seq.{take-length}
 use lib.Ieee.{Float, binary64, nan, sub, lt}
 use Rattle.regions.specs.Region.{zero_f, Front, Frame}
 use Rattle.regions.proofs.Cases.{same_or_not}
@@ -43,6 +44,22 @@ take_frame n w w' f =
     long : (a b : List Float) → length b ≡ length a → length (take n b) ≡ length (take n a)
     long a b e = omega (arith, length-take n a, length-take n b)
 
+-- ---- the first k of the elected as a slice of their own
+pub silence_front : {n k : ℕ} {elected : List ℕ} {w : List Float} → SilencePre n k elected w → SilencePre n (length (take k elected)) (take k elected) w
+silence_front {n} {k} {elected} p =
+    record {
+      some = omega arith;
+      nodes = λ i l. let h : i < k = omega (arith, length-take k elected) in omega (arith, get_or-take k elected i 0 h, p.nodes i h);
+      room = p.room;
+    }
+
+silenced_front : (n k : ℕ) (elected : List ℕ) {w w' : List Float} → Silenced n (length (take k elected)) (take k elected) w w' → Silenced n k elected w w'
+silenced_front n k elected {w} s =
+    record {
+      frame = s.frame;
+      at = λ v l. s.at v l ∙ ap (λ (es : List ℕ). cond (listed v es) zero_f (get_or w (n + v) nan)) (take-length (take k elected));
+    }
+
 -- ---- k elections
 -- k elections were held, and what is left of them leads from here to the end
 pub record Polling (n : ℕ) (directed : Bool) (from to : List ℕ) (weight : List Float) (decay : Float) (seats : ℕ) (elected₀ : List ℕ) (w₀ : List Float) (k : ℕ) (elected : List ℕ) (w : List Float) : Type 0 where
@@ -71,7 +88,10 @@ module _ (n : ℕ) (directed : Bool) (from to : List ℕ) (weight : List Float) 
       pub silence_pre : SilencePre n k elected w1
       silence_pre = record { some = omega (arith, p.seated, P.slots.long); nodes = P.nodes; room = omega (arith, p.room, P.front.long, t.frame.long) }
 
-      module _ (s : Silenced n k elected w1 w2) where
+      module _ (silent : Silenced n (length (take k elected)) (take k elected) w1 w2) where
+        s : Silenced n k elected w1 w2
+        s = silenced_front n k elected silent
+
         pub highest_pre : (0 < n) × (2 * n ≤ length w2)
         highest_pre = (omega (arith, p.few), omega (arith, p.room, P.front.long, t.frame.long, s.frame.long))
 
@@ -148,13 +168,13 @@ module _ (n : ℕ) (directed : Bool) (from to : List ℕ) (weight : List Float) 
                 front = front_here;
               }
 
-  pub polling_all : (k : ℕ) (elected : List ℕ) (w : List Float) → seats ≤ k → Polling n directed from to weight decay seats elected₀ w₀ k elected w → Held n directed from to weight decay seats elected₀ w₀ k elected w
+  pub polling_all : (k : ℕ) (elected : List ℕ) (w : List Float) → k ≡ seats → Polling n directed from to weight decay seats elected₀ w₀ k elected w → Held n directed from to weight decay seats elected₀ w₀ seats elected w
   unfolding elections
-  polling_all k elected w l P =
+  polling_all k elected w e P =
       record {
-        most = P.most;
-        polled = ap (λ (j : ℕ). elections g decay j (poll_at n k elected w)) none ∙ P.ahead;
-        slots = P.slots;
+        most = omega arith;
+        polled = ap (λ (j : ℕ). poll_at n j elected w) (sym e) ∙ ap (λ (j : ℕ). elections g decay j (poll_at n k elected w)) none ∙ P.ahead;
+        slots = front_wide seats (omega arith) P.slots;
         front = P.front;
       }
     where

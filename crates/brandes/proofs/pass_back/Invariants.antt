@@ -1,11 +1,7 @@
--- `brandes::pass_back` meets its contract: the entries before p have taken their shares. Assumes nothing.
-use Rattle.std.proofs.Common.{◌≡◌, ◌-◌, ◌≤◌, length}
-use Rattle.regions.specs.Region.{part}
+-- `brandes::pass_back` meets its contract: the entries before this one have taken their shares. Assumes nothing.
+use Rattle.std.proofs.Common.{◌≡◌, take}
 use Rattle.brandes.specs.Steps.{passed_back}
 use Rattle.brandes.proofs.pass_back.Given as goal
 
-abbrev pub invariant-loop-p : goal.invariant-loop-p
-invariant-loop-p l = (l.a ≤ l.p) × (l.p ≤ l.e) × (length l.wf ≡ length l.initial.wf) × (l.wf ≡ passed_back l.nodes l.w64 l.ways l.grown l.initial.wf (part l.w32 l.a (l.p - l.a)))
-
-abbrev pub decreases-loop-p : goal.decreases-loop-p
-decreases-loop-p l = l.e - l.p
+abbrev pub invariant-loop-entry : goal.invariant-loop-entry
+invariant-loop-entry l = l.wf ≡ passed_back l.nodes l.w64 l.ways l.grown l.initial.wf (take l.entry-index l.entries)

@@ -1,11 +1,8 @@
--- `crossings::pass_back` meets its contract: the entries before p and their pairs have taken their shares. Assumes nothing.
-use Rattle.std.proofs.Common.{◌≡◌, ◌-◌, ◌≤◌, length}
-use Rattle.regions.specs.Region.{part}
+-- `crossings::pass_back` meets its contract: the entries from k on and their pairs have yet to take their shares. Assumes nothing.
+use Rattle.std.proofs.Common.{◌≡◌, length, drop}
 use Rattle.crossings.specs.Crossings.{crossed_all}
 use Rattle.crossings.proofs.pass_back.Given as goal
 
-abbrev pub invariant-loop-p : goal.invariant-loop-p
-invariant-loop-p l = (l.a ≤ l.p) × (l.p ≤ l.e) × (length l.wf ≡ length l.initial.wf) × (l.wf ≡ crossed_all l.nodes l.totals l.w64 l.ways l.grown l.initial.wf (part l.w32 l.a (l.p - l.a)) (part l.w32 l.b (l.p - l.a)))
-
-abbrev pub decreases-loop-p : goal.decreases-loop-p
-decreases-loop-p l = l.e - l.p
+abbrev pub invariant-loop-k : goal.invariant-loop-k
+invariant-loop-k l = (length l.wf ≡ length l.initial.wf)
+    × (crossed_all l.nodes l.totals l.w64 l.ways l.grown l.initial.wf l.entries l.pairs ≡ crossed_all l.nodes l.totals l.w64 l.ways l.grown l.wf (drop l.k l.entries) (drop l.k l.pairs))

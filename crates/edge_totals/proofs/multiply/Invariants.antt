@@ -1,10 +1,6 @@
--- `edge_totals::multiply` meets its contract: after i turns the first i floats are multiplied. Assumes nothing.
-use Rattle.std.proofs.Common.{◌-◌, ◌≤◌}
-use Rattle.edge_totals.specs.Writes.{Multiplied}
+-- `edge_totals::multiply` meets its contract: the totals before this one are multiplied. Assumes nothing.
+use Rattle.edge_totals.proofs.Factors.{Times}
 use Rattle.edge_totals.proofs.multiply.Given as goal
 
-abbrev pub invariant-loop-i : goal.invariant-loop-i
-invariant-loop-i l = (l.i ≤ l.len) × Multiplied l.initial.wf l.base l.i l.factor l.wf
-
-abbrev pub decreases-loop-i : goal.decreases-loop-i
-decreases-loop-i l = l.len - l.i
+abbrev pub invariant-loop-total : goal.invariant-loop-total
+invariant-loop-total l = Times l.initial.total-items l.factor l.total-index l.total-items

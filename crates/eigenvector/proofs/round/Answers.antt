@@ -12,15 +12,15 @@ norm-norm-requires c = omega (arith, c.requires.spreads.room, c.spread_edges.ens
 pub overflow_add-nodes : goal.overflow_add-nodes
 overflow_add-nodes c = omega (arith, c.requires.spreads.sound.limits.nodes)
 
-pub fillf-requires : goal.fillf-requires
-fillf-requires c = omega (arith, c.requires.spreads.room, c.spread_edges.ensures.front.long)
+pub fill-requires : goal.fill-requires
+fill-requires c = omega (arith, c.requires.spreads.room, c.spread_edges.ensures.front.long)
 
 pub returns-then-norm : goal.returns-then-norm
 returns-then-norm c =
     let a = c.args in
     let v = c.spread_edges.ensures in
-    round_tiny a.nodes a.directed a.from.now a.to.now a.weight.now a.tolerance c.requires.begun v (omega (arith, c.requires.spreads.room, v.front.long)) c.requires.value
-    c.norm-norm.ensures c.if-norm.true c.fillf.ensures
+    round_tiny a.graph.nodes a.graph.directed a.graph.from.now a.graph.to.now a.graph.weight.now a.tolerance c.requires.begun v (omega (arith, c.requires.spreads.room, v.front.long)) c.requires.value
+    c.norm-norm.ensures c.if-norm.true c.fill.ensures
 
 pub normalize-change-requires : goal.normalize-change-requires
 normalize-change-requires c = omega (arith, c.requires.spreads.room, c.spread_edges.ensures.front.long)
@@ -28,5 +28,5 @@ normalize-change-requires c = omega (arith, c.requires.spreads.room, c.spread_ed
 pub returns : goal.returns
 returns c =
     let a = c.args in
-    round_scaled a.nodes a.directed a.from.now a.to.now a.weight.now a.tolerance c.requires.begun c.spread_edges.ensures
+    round_scaled a.graph.nodes a.graph.directed a.graph.from.now a.graph.to.now a.graph.weight.now a.tolerance c.requires.begun c.spread_edges.ensures
     c.norm-norm.ensures c.if-norm.false c.normalize-change.ensures.0 c.normalize-change.ensures.1 c.sqrt.ensures.0

@@ -1,30 +1,35 @@
--- `eigenvector::run` meets its contract. Assumes nothing.
-use Rattle.std.proofs.Common.{arith}
-use Rattle.eigenvector.proofs.Steps.{begun_both, run_none, run_some}
+-- `eigenvector::run` meets its contract: each round leaves what the next one asks. Assumes nothing.
+use Rattle.std.proofs.Common.{sym, subst, arith}
+use Rattle.graph.specs.Edges.{graph_from}
+use Rattle.rounds.proofs.Runs.{reached_ready, ran}
+use Rattle.eigenvector.specs.Eigenvector.{eigen_step}
+use Rattle.eigenvector.specs.Steps.{RoundPre}
+use Rattle.eigenvector.proofs.Steps.{first_pre, again_pre, run_done}
 use Rattle.eigenvector.proofs.run.Goals as goal
 
-pub overflow_add-nodes : goal.overflow_add-nodes
-overflow_add-nodes c = omega (arith, c.requires.sound.limits.nodes)
+pub fill-requires : goal.fill-requires
+fill-requires c = omega (arith, c.requires.room)
 
-pub fillf-requires : goal.fillf-requires
-fillf-requires c = omega (arith, c.requires.room)
-
-pub returns-then-from-eq0 : goal.returns-then-from-eq0
-returns-then-from-eq0 c =
-    let a = c.args in
-    run_none a.nodes a.directed a.from.now a.to.now a.weight.now c.requires.sound a.settings c.requires.room c.start_value-start.ensures c.fillf.ensures c.if-from-eq0.true
-
-pub run_on-requires : goal.run_on-requires
-run_on-requires c =
-    let a = c.args in
-    let f = c.fillf.ensures in
-    record {
-      spreads = record { sound = c.requires.sound; room = omega (arith, c.requires.room, f.frame.long) };
-      begun = begun_both a.nodes a.directed a.from.now a.to.now a.weight.now c.requires.sound a.settings c.requires.room c.start_value-start.ensures f;
-      value = c.start_value-start.ensures;
-    }
+pub run-requires : goal.run-requires
+run-requires c = λ k x reached p e.
+    let g = c.args.graph in
+    let n = g.nodes in
+    let fs = g.from.now in
+    let ts = g.to.now in
+    let xs = g.weight.now in
+    let start = c.start_value-start.result in
+    let i = reached_ready n (eigen_step (graph_from n g.directed fs ts xs) c.args.settings.tolerance) (RoundPre n fs ts xs start) (λ p q met i r. (r.0, again_pre i r))
+    (first_pre n g.directed fs ts xs c.requires.sound c.args.settings c.requires.room c.start_value-start.ensures c.fill.ensures) reached in
+    subst (RoundPre n fs ts xs start) (sym e) i
 
 pub returns : goal.returns
 returns c =
-    let a = c.args in
-    run_some a.nodes a.directed a.from.now a.to.now a.weight.now c.requires.sound a.settings c.requires.room c.start_value-start.ensures c.fillf.ensures c.if-from-eq0.false c.run_on.ensures
+    let g = c.args.graph in
+    let n = g.nodes in
+    let fs = g.from.now in
+    let ts = g.to.now in
+    let xs = g.weight.now in
+    let start = c.start_value-start.result in
+    run_done n g.directed fs ts xs c.requires.sound c.args.settings c.requires.room c.start_value-start.ensures c.fill.ensures
+    (ran n (eigen_step (graph_from n g.directed fs ts xs) c.args.settings.tolerance) (RoundPre n fs ts xs start) (λ p q met i r. (r.0, again_pre i r))
+    (first_pre n g.directed fs ts xs c.requires.sound c.args.settings c.requires.room c.start_value-start.ensures c.fill.ensures) c.run.ensures)

@@ -1,16 +1,13 @@
--- `graph::work_wrong` meets its contract: each return by the tests that led to it. Assumes nothing.
-use borrow.Author.Tests.{lt-ltb, le-ltb}
+-- `graph::work_wrong` meets its contract. Assumes nothing.
+use Rattle.std.proofs.Common.{arith}
+use Rattle.std.proofs.lemmas.Bool.Decides.{nat_tests}
 use Rattle.graph.specs.Checks.{work_wrong}
 use Rattle.graph.proofs.work_wrong.Goals as goal
 
-pub returns-then-a-front : goal.returns-then-a-front
+pub returns-then-lengths-front-2 : goal.returns-then-lengths-front-2
 unfolding work_wrong
-returns-then-a-front c = simp (lt-ltb _ _ c.if-a-front.true)
+returns-then-lengths-front-2 c = grind (arith, nat_tests)
 
-pub returns-then-b-front : goal.returns-then-b-front
+pub returns-else-lengths-front-2 : goal.returns-else-lengths-front-2
 unfolding work_wrong
-returns-then-b-front c = simp (le-ltb _ _ c.if-a-front.false, lt-ltb _ _ c.if-b-front.true)
-
-pub returns : goal.returns
-unfolding work_wrong
-returns c = simp (le-ltb _ _ c.if-a-front.false, le-ltb _ _ c.if-b-front.false)
+returns-else-lengths-front-2 c = grind (arith, nat_tests)

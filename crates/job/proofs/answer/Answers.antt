@@ -10,13 +10,13 @@ use Rattle.job.proofs.answer.Goals as goal
 pub returns-then-input-gt-INPUT : goal.returns-then-input-gt-INPUT
 returns-then-input-gt-INPUT c = as_written (too_long _ c.if-input-gt-INPUT.true) c.put_refusal.ensures
 
-pub returns-in-Fault : goal.returns-in-Fault
-returns-in-Fault c = as_written (a_fault _ c.if-input-gt-INPUT.false c.read_job.ensures.job_is c.in-Fault.is) c.put_refusal-in-Fault.ensures
+pub returns-in-Err : goal.returns-in-Err
+returns-in-Err c = as_written (a_fault _ c.if-input-gt-INPUT.false c.read_job.ensures.job_is c.in-Err.is) c.put_refusal-in-Err.ensures
 
-pub returns-in-Asked : goal.returns-in-Asked
-returns-in-Asked c =
+pub returns-in-Ok : goal.returns-in-Ok
+returns-in-Ok c =
     let read = c.read_job.ensures in
-    let told = c.in-Asked.is in
+    let told = c.in-Ok.is in
     let edges = (edges_of c.args.input.now).given in
     let long = edges_asked c.args.input.now (sym read.job_is ∙ told) in
     as_written

@@ -12,5 +12,5 @@ advance-change-requires c = record { room = omega (arith, c.requires.run.vectors
 pub returns : goal.returns
 returns c =
     let a = c.args in
-    round_done a.nodes a.directed a.from.now a.to.now a.weight.now a.alpha a.tolerance c.requires.begun
+    round_done a.graph.nodes a.graph.directed a.graph.from.now a.graph.to.now a.graph.weight.now a.settings.damping a.settings.tolerance c.requires.begun
     c.spread_edges.ensures c.advance-change.ensures.0 c.advance-change.ensures.1 c.sqrt.ensures.0

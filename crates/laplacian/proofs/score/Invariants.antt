@@ -1,11 +1,8 @@
 -- `laplacian::score` meets its contract: after k entries the sum has k neighbours. Assumes nothing.
-use Rattle.std.proofs.Common.{◌≡◌, ◌-◌, ◌≤◌, length}
+use Rattle.std.proofs.Common.{◌≡◌}
 use Rattle.rows.specs.Rows.{row_at}
 use Rattle.laplacian.proofs.Sums.{sum_after}
 use Rattle.laplacian.proofs.score.Given as goal
 
-abbrev pub invariant-loop-k : goal.invariant-loop-k
-invariant-loop-k l = (l.k ≤ length (row_at l.nodes l.w l.v)) × (l.sum ≡ sum_after (row_at l.nodes l.w) l.v l.k)
-
-abbrev pub decreases-loop-k : goal.decreases-loop-k
-decreases-loop-k l = length (row_at l.nodes l.w l.v) - l.k
+abbrev pub invariant-loop-u : goal.invariant-loop-u
+invariant-loop-u l = l.sum ≡ sum_after (row_at l.rows.nodes l.rows.cells.now) l.v l.u-index

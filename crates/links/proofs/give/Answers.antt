@@ -3,27 +3,6 @@ use Rattle.std.proofs.Common.{arith}
 use Rattle.links.proofs.Giving.{give_pre, give_part, given_then}
 use Rattle.links.proofs.give.Goals as goal
 
-pub overflow_add-end : goal.overflow_add-end
-overflow_add-end c = omega (arith, give_pre c.requires.0 _ c.requires.1)
-
-pub offset_bounds-w-v : goal.offset_bounds-w-v
-offset_bounds-w-v c = omega (arith, give_pre c.requires.0 _ c.requires.1)
-
-pub bounds-w-v : goal.bounds-w-v
-bounds-w-v c = omega (arith, give_pre c.requires.0 _ c.requires.1)
-
-pub overflow_cast-end : goal.overflow_cast-end
-overflow_cast-end c = omega (arith, give_pre c.requires.0 _ c.requires.1)
-
-pub offset_bounds-w-v-2 : goal.offset_bounds-w-v-2
-offset_bounds-w-v-2 c = omega (arith, give_pre c.requires.0 _ c.requires.1)
-
-pub bounds-w-v-2 : goal.bounds-w-v-2
-bounds-w-v-2 c = omega (arith, give_pre c.requires.0 _ c.requires.1)
-
-pub overflow_cast-first : goal.overflow_cast-first
-overflow_cast-first c = omega (arith, give_pre c.requires.0 _ c.requires.1)
-
 pub give_fours-k-requires : goal.give_fours-k-requires
 give_fours-k-requires c = give_pre c.requires.0 c.args.v c.requires.1
 

@@ -6,23 +6,11 @@ use Rattle.links.proofs.give_fours.Goals as goal
 pub loop-k-init : goal.loop-k-init
 loop-k-init c = (omega arith, c.requires.order, given_none c.args.nodes c.args.contribution c.args.w.now c.args.first c.args.wf.now)
 
-pub overflow_sub-end : goal.overflow_sub-end
-overflow_sub-end c = omega (arith, c.loop-k.invariant.1)
-
 pub give_four-requires : goal.give_four-requires
 give_four-requires c = give_part c.requires c.loop-k.k (c.loop-k.k + 4) c.loop-k.invariant.0 (omega arith) (omega (arith, c.loop-k.invariant.1, c.loop-k-test.true)) c.loop-k.invariant.2.front.long
 
-pub overflow_add-k : goal.overflow_add-k
-overflow_add-k c = omega (arith, c.loop-k.invariant.1, c.loop-k-test.true)
-
-pub loop-k-smaller : goal.loop-k-smaller
-loop-k-smaller c = omega (arith, c.loop-k.invariant.1, c.loop-k-test.true)
-
 pub loop-k-preserved : goal.loop-k-preserved
 loop-k-preserved c = (omega (arith, c.loop-k.invariant.0), omega (arith, c.loop-k.invariant.1, c.loop-k-test.true), given_then c.args.nodes c.args.contribution c.args.w.now c.loop-k.invariant.0 (omega arith) c.loop-k.invariant.2 c.give_four.ensures)
-
-pub shape_of-wf : goal.shape_of-wf
-shape_of-wf c = c.loop-k.invariant.2.front.long
 
 pub returns : goal.returns
 returns c = c.loop-k.invariant

@@ -17,14 +17,14 @@ returns-then-none c =
 
 pub loop-i-init : goal.loop-i-init
 unfolding of_bits
-loop-i-init c = (omega arith, after_none _ _)
+loop-i-init c = after_none _ _
 
 pub with_dangling-dangling-requires : goal.with_dangling-dangling-requires
 with_dangling-dangling-requires c = (c.requires.0, c.loop-i-test.true)
 
 pub loop-i-preserved : goal.loop-i-preserved
-loop-i-preserved c = (omega (arith, c.loop-i-test.true), c.with_dangling-dangling.ensures ∙ after_more (with_dangling (outs_in c.args.nodes c.args.wf.now) (current_in c.args.nodes c.args.wf.now)) c.loop-i.i zero_f c.loop-i.dangling c.loop-i.invariant.1)
+loop-i-preserved c = c.with_dangling-dangling.ensures ∙ after_more (with_dangling (outs_in c.args.nodes c.args.wf.now) (current_in c.args.nodes c.args.wf.now)) c.loop-i.i zero_f c.loop-i.dangling c.loop-i.invariant
 
 pub returns : goal.returns
 unfolding dangling_sum
-returns c = c.loop-i.invariant.1 ∙ ap (λ (k : ℕ). after (with_dangling (outs_in c.args.nodes c.args.wf.now) (current_in c.args.nodes c.args.wf.now)) k zero_f) (omega (arith, c.loop-i.invariant.0, c.loop-i-test.false))
+returns c = c.loop-i.invariant ∙ ap (λ (k : ℕ). after (with_dangling (outs_in c.args.nodes c.args.wf.now) (current_in c.args.nodes c.args.wf.now)) k zero_f) (omega arith)

@@ -1,12 +1,8 @@
 -- `pair_search::search_from` meets its contract: the start alone in the queue, with no pair, is where the visits begin. Assumes nothing.
 use native.Mathlib.Omega.{arith}
-use Rattle.hops.proofs.Search.{begin_pre}
 use Rattle.predecessors.proofs.Tours.{stays_then, begun_stays, track_first}
 use Rattle.pair_search.proofs.Runs.{begun_paired, first_pairs}
 use Rattle.pair_search.proofs.search_from.Goals as goal
-
-pub begin-requires : goal.begin-requires
-begin-requires c = begin_pre c.requires.search.space
 
 pub search_on-requires : goal.search_on-requires
 search_on-requires c =
@@ -18,20 +14,10 @@ search_on-requires c =
             directed = p.directed;
             edges = p.edges;
             start = c.args.start;
-            tracked = track_first c.args.limit p.space p.slots p.fresh p.empty p.some begun;
+            tracked = track_first p.space p.slots p.fresh p.empty p.some begun;
           };
-      paired = begun_paired c.args.limit p.space p.slots p.fresh p.empty p.some begun c.requires.paired;
+      paired = begun_paired p.space p.slots p.fresh p.empty p.some begun c.requires.paired;
     }
-
-pub shape_of-w32 : goal.shape_of-w32
-shape_of-w32 c =
-    let p = c.requires.search in
-    (stays_then (omega (arith, p.slots.firsts)) (begun_stays c.args.limit p.space p.slots p.fresh p.empty p.some c.begin.ensures) c.search_on.ensures.on.stays).long
-
-pub shape_of-w64 : goal.shape_of-w64
-shape_of-w64 c =
-    let p = c.requires.search in
-    (stays_then (omega (arith, p.slots.firsts)) (begun_stays c.args.limit p.space p.slots p.fresh p.empty p.some c.begin.ensures) c.search_on.ensures.on.stays).wide.long
 
 pub returns : goal.returns
 returns c =
@@ -41,8 +27,8 @@ returns c =
     record {
       search =
           record {
-            stays = stays_then (omega (arith, p.slots.firsts)) (begun_stays c.args.limit p.space p.slots p.fresh p.empty p.some begun) r.on.stays;
-            ended = λ directed es H S. r.on.ended directed es c.args.start (track_first c.args.limit H S p.fresh p.empty p.some begun);
+            stays = stays_then (omega (arith, p.slots.firsts)) (begun_stays p.space p.slots p.fresh p.empty p.some begun) r.on.stays;
+            ended = λ directed es H S. r.on.ended directed es c.args.start (track_first H S p.fresh p.empty p.some begun);
           };
-      held = λ directed es number H S N. r.held directed es number c.args.start (first_pairs c.args.limit H S p.fresh p.empty p.some begun c.requires.paired number N);
+      held = λ directed es number H S N. r.held directed es number c.args.start (first_pairs H S p.fresh p.empty p.some begun c.requires.paired number N);
     }

@@ -1,64 +1,35 @@
 -- `pair_search::search_on` meets its contract: before each visit the search is as `Run` and `RunPairs` say. Assumes nothing.
-use native.Mathlib.Omega.{arith}
+use Rattle.std.proofs.lemmas.Result.{err_from_is_err_and}
 use Rattle.hops.specs.Search.{graph_of}
-use Rattle.predecessors.proofs.Tours.{Run, run_none, run_stays, run_step, run_paths}
-use Rattle.pair_search.proofs.Runs.{run_pairs_none, run_pairs_visiting, run_pairs_step}
+use Rattle.predecessors.proofs.Tours.{Run, run_stays, run_step, run_paths}
+use Rattle.pair_search.proofs.Runs.{run_pairs_step}
 use Rattle.pair_search.proofs.search_on.Goals as goal
 use Rattle.pair_search.proofs.search_on.Goals.{At-loop-head}
 
 -- where the search stands, for the graph that the caller has
-here : (c : goal.At-loop-head) → Run (graph_of c.args.nodes c.requires.visit.directed c.requires.visit.edges) c.args.limit c.requires.visit.start c.args.distances c.args.queue c.args.first c.args.last c.args.base c.args.w32.now c.args.w64.now c.loop-head.w32 c.loop-head.w64 c.loop-head.head c.loop-head.tail
+here : (c : goal.At-loop-head) → Run (graph_of c.args.paired.tracks.places.nodes c.requires.visit.directed c.requires.visit.edges) c.args.paired.tracks c.requires.visit.start c.args.w32.now c.args.w64.now c.loop-head.w32 c.loop-head.w64 c.loop-head.head c.loop-head.tail
 here c = let s = c.requires.visit in c.loop-head.invariant.0 s.directed s.edges s.start s.tracked
 
-pub loop-head-init : goal.loop-head-init
-loop-head-init c = (λ directed es s T. run_none T, λ directed es number s T. run_pairs_none T)
-
-pub visit-reached-requires : goal.visit-reached-requires
-visit-reached-requires c =
-    let s = c.requires in
-    run_pairs_visiting s.visit.directed s.visit.edges s.visit.start s.paired (here (goal.at.visit-reached-requires c).At-loop-head) c.loop-head-test.true
-
-pub shape_of-w32-in_default : goal.shape_of-w32-in_default
-shape_of-w32-in_default c =
-    let s = c.requires.visit in
-    (run_stays s.directed s.edges s.start (here (goal.at.shape_of-w32-in_default c).At-loop-head) c.loop-head-test.true c.visit-reached.ensures.visit).long
-
-pub shape_of-w64-in_default : goal.shape_of-w64-in_default
-shape_of-w64-in_default c =
-    let s = c.requires.visit in
-    (run_stays s.directed s.edges s.start (here (goal.at.shape_of-w64-in_default c).At-loop-head) c.loop-head-test.true c.visit-reached.ensures.visit).wide.long
-
-pub returns-in_default : goal.returns-in_default
-returns-in_default c =
+pub returns-in_err-tail : goal.returns-in_err-tail
+returns-in_err-tail c =
     let s = c.requires.visit in
     let l = c.loop-head-test.true in
-    let v = c.visit-reached.ensures.visit in
-    record {
+    let p = err_from_is_err_and c.from_residual.result c.from_residual.ensures.1 in
+    rw p.1
+    (record {
       on =
           record {
-            stays = run_stays s.directed s.edges s.start (here (goal.at.returns-in_default c).At-loop-head) l v;
-            ended = λ directed es s T. run_paths directed es s (c.loop-head.invariant.0 directed es s T) l v c.in_default.is;
+            stays = run_stays s.directed s.edges s.start (here (goal.at.returns-in_err-tail c).At-loop-head) l c.visit.ensures.visit;
+            ended = λ directed es s T. run_paths directed es s (c.loop-head.invariant.0 directed es s T) l c.in_err-tail.field-0.0 c.in_err-tail.ensures.visit;
           };
       held = λ directed es number s T. tt;
-    }
-
-pub overflow_add-head : goal.overflow_add-head
-overflow_add-head c = omega (arith, c.loop-head-test.true, (here (goal.at.overflow_add-head c).At-loop-head).most, c.requires.visit.tracked.search.space.room, c.well_formed, c.ranges)
-
-pub loop-head-smaller : goal.loop-head-smaller
-loop-head-smaller c = omega (arith, c.loop-head-test.true, (here (goal.at.loop-head-smaller c).At-loop-head).most)
+    })
 
 pub loop-head-preserved : goal.loop-head-preserved
 loop-head-preserved c =
     let l = c.loop-head-test.true in
-    let v = c.visit-reached.ensures in
-    (λ directed es s T. run_step directed es s (c.loop-head.invariant.0 directed es s T) l v.visit c.in-Nodes.end c.in-Nodes.is, λ directed es number s T. run_pairs_step directed es number s (c.loop-head.invariant.1 directed es number s T) l v c.in-Nodes.end c.in-Nodes.is)
-
-pub shape_of-w32 : goal.shape_of-w32
-shape_of-w32 c = (here (goal.at.shape_of-w32 c).At-loop-head).stays.long
-
-pub shape_of-w64 : goal.shape_of-w64
-shape_of-w64 c = (here (goal.at.shape_of-w64 c).At-loop-head).stays.wide.long
+    let v = c.in_ok-tail.ensures in
+    (λ directed es s T. run_step directed es s (c.loop-head.invariant.0 directed es s T) l c.in_ok-tail.tail v.visit, λ directed es number s T. run_pairs_step directed es number s (c.loop-head.invariant.1 directed es number s T) l v)
 
 pub returns : goal.returns
 returns c =

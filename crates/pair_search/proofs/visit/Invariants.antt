@@ -1,7 +1,7 @@
 -- `pair_search::visit` meets its contract: at each entry the search is as `TourPairs` says. Assumes nothing.
 use mathlib.Core.Bool.{Bool}
 use mathlib.Core.List.{List}
-use Prim.Native.Nat.{ℕ, ◌-◌}
+use Prim.Native.Nat.{ℕ}
 use Rattle.graph.specs.Edges.{Edge}
 use Rattle.hops.specs.Search.{graph_of}
 use Rattle.predecessors.specs.Tracks.{Tracked}
@@ -9,8 +9,5 @@ use Rattle.pair_search.proofs.Tours.{TourPairs}
 use Rattle.pair_search.proofs.visit.Given as goal
 
 abbrev pub invariant-loop-p : goal.invariant-loop-p
-invariant-loop-p l = (directed : Bool) (es : List Edge) (s : ℕ) → Tracked (graph_of l.nodes directed es) l.limit s l.initial.w32 l.initial.w64 l.distances l.queue l.first l.last l.base l.head l.tail l.u 0
-    → TourPairs (graph_of l.nodes directed es) l.limit s l.distances l.queue l.beside l.first l.last l.pairs l.base l.head l.tail l.initial.w32 l.initial.w64 l.u l.further l.ways l.w32 l.w64 l.p l.place
-
-abbrev pub decreases-loop-p : goal.decreases-loop-p
-decreases-loop-p l = l.end - l.p
+invariant-loop-p l = (directed : Bool) (es : List Edge) (s : ℕ) → Tracked (graph_of l.paired.tracks.places.nodes directed es) l.paired.tracks s l.initial.w32 l.initial.w64 l.head l.tail l.u 0
+    → TourPairs (graph_of l.paired.tracks.places.nodes directed es) l.paired s l.head l.tail l.initial.w32 l.initial.w64 l.u l.further l.ways l.w32 l.w64 l.p l.place

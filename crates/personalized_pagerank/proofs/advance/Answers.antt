@@ -6,72 +6,26 @@ use Rattle.rounds.proofs.Passes.{rewritten_none, rewritten_more}
 use Rattle.personalized_pagerank.proofs.Personal.{base_again, change_again, renewed}
 use Rattle.personalized_pagerank.proofs.advance.Goals as goal
 
-pub overflow_mul-base : goal.overflow_mul-base
-overflow_mul-base c = omega (arith, c.requires)
-
 pub loop-i-init : goal.loop-i-init
 unfolding of_bits
-loop-i-init c = (omega arith, rewritten_none _ _ _ _, after_none _ _)
-
-pub overflow_add-next : goal.overflow_add-next
-overflow_add-next c = omega (arith, c.requires, c.loop-i.invariant.1.front.long, c.loop-i-test.true)
-
-pub offset_bounds-wf-nodes : goal.offset_bounds-wf-nodes
-offset_bounds-wf-nodes c = omega (arith, c.requires, c.loop-i.invariant.1.front.long, c.loop-i-test.true)
-
-pub bounds-wf-nodes : goal.bounds-wf-nodes
-bounds-wf-nodes c = omega (arith, c.requires, c.loop-i.invariant.1.front.long, c.loop-i-test.true)
-
-pub offset_bounds-wf-i : goal.offset_bounds-wf-i
-offset_bounds-wf-i c = omega (arith, c.requires, c.loop-i.invariant.1.front.long, c.loop-i-test.true)
-
-pub bounds-wf-i : goal.bounds-wf-i
-bounds-wf-i c = omega (arith, c.requires, c.loop-i.invariant.1.front.long, c.loop-i-test.true)
-
-pub offset_bounds-wf-i-in-loop-i : goal.offset_bounds-wf-i-in-loop-i
-offset_bounds-wf-i-in-loop-i c = omega (arith, c.requires, c.loop-i.invariant.1.front.long, c.loop-i-test.true)
-
-pub bounds-wf-i-in-loop-i : goal.bounds-wf-i-in-loop-i
-bounds-wf-i-in-loop-i c = omega (arith, c.requires, c.loop-i.invariant.1.front.long, c.loop-i-test.true)
-
-pub overflow_add-wf : goal.overflow_add-wf
-overflow_add-wf c = omega (arith, c.requires, c.loop-i.invariant.1.front.long, c.loop-i-test.true)
-
-pub offset_bounds-wf-base : goal.offset_bounds-wf-base
-offset_bounds-wf-base c = omega (arith, c.requires, c.loop-i.invariant.1.front.long, c.loop-i-test.true)
+loop-i-init c = (rewritten_none _ _ _ _, after_none _ _)
 
 pub bounds-wf-base : goal.bounds-wf-base
-bounds-wf-base c = simp length-set (omega (arith, c.requires, c.loop-i.invariant.1.front.long, c.loop-i-test.true))
-
-pub overflow_add-wf-in-loop-i : goal.overflow_add-wf-in-loop-i
-overflow_add-wf-in-loop-i c = omega (arith, c.requires, c.loop-i.invariant.1.front.long, c.loop-i-test.true)
-
-pub offset_bounds-wf-nodes-in-loop-i : goal.offset_bounds-wf-nodes-in-loop-i
-offset_bounds-wf-nodes-in-loop-i c = omega (arith, c.requires, c.loop-i.invariant.1.front.long, c.loop-i-test.true)
+bounds-wf-base c = simp length-set (omega (arith, c.requires, c.loop-i.invariant.0.front.long, c.loop-i-test.true))
 
 pub bounds-wf-nodes-in-loop-i : goal.bounds-wf-nodes-in-loop-i
-bounds-wf-nodes-in-loop-i c = simp length-set (omega (arith, c.requires, c.loop-i.invariant.1.front.long, c.loop-i-test.true))
-
-pub overflow_add-i : goal.overflow_add-i
-overflow_add-i c = omega (arith, c.requires, c.loop-i-test.true)
-
-pub loop-i-smaller : goal.loop-i-smaller
-loop-i-smaller c = omega (arith, c.requires, c.loop-i-test.true)
+bounds-wf-nodes-in-loop-i c = simp length-set (omega (arith, c.requires, c.loop-i.invariant.0.front.long, c.loop-i-test.true))
 
 pub loop-i-preserved : goal.loop-i-preserved
 unfolding of_bits
 loop-i-preserved c =
     let l = c.loop-i-test.true in
-    let r = c.loop-i.invariant.1 in
+    let r = c.loop-i.invariant.0 in
     let i = c.loop-i.i in (
-      omega (arith, l),
       rewritten_more _ _ _ _ (omega (arith, c.requires)) l (r.next_left i (le_refl i) l) (base_again c.args.nodes c.args.damping c.args.wf.now i _ l r.front) r,
-      change_again c.args.nodes c.args.damping c.args.wf.now i c.abs-change.ensures (r.current_left i (le_refl i) l) (r.next_left i (le_refl i) l) c.loop-i.invariant.2,
+      change_again c.args.nodes c.args.damping c.args.wf.now i c.abs-change.ensures (r.current_left i (le_refl i) l) (r.next_left i (le_refl i) l) c.loop-i.invariant.1,
     )
-
-pub shape_of-wf : goal.shape_of-wf
-shape_of-wf c = c.loop-i.invariant.1.front.long
 
 pub returns : goal.returns
 returns c =
-    renewed c.args.nodes c.args.damping c.args.wf.now c.requires (omega (arith, c.loop-i.invariant.0, c.loop-i-test.false)) c.loop-i.invariant.1 c.loop-i.invariant.2
+    renewed c.args.nodes c.args.damping c.args.wf.now c.requires (omega arith) c.loop-i.invariant.0 c.loop-i.invariant.1

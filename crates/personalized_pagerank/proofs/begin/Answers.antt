@@ -9,13 +9,13 @@ overflow_mul-base c = omega (arith, c.requires.room)
 pub divide-requires : goal.divide-requires
 divide-requires c = begin_divide_pre c.args.nodes c.args.damping c.args.given c.args.vector.now c.args.wf.now c.requires c.divisor-sum.ensures c.counts-counts.ensures refl
 
-pub copyf_within-requires : goal.copyf_within-requires
-copyf_within-requires c = begin_apart c.args.nodes c.args.damping c.args.given c.args.vector.now c.args.wf.now c.requires c.divisor-sum.ensures c.counts-counts.ensures c.chosen.ensures c.divide.ensures
+pub copy_within-requires : goal.copy_within-requires
+copy_within-requires c = begin_apart c.args.nodes c.args.damping c.args.given c.args.vector.now c.args.wf.now c.requires c.divisor-sum.ensures c.counts-counts.ensures c.chosen.ensures c.divide.ensures
 
 pub bases-requires : goal.bases-requires
 bases-requires c =
-    begin_room c.args.nodes c.args.damping c.args.given c.args.vector.now c.args.wf.now c.requires c.divisor-sum.ensures c.counts-counts.ensures c.chosen.ensures c.divide.ensures c.copyf_within.ensures
+    begin_room c.args.nodes c.args.damping c.args.given c.args.vector.now c.args.wf.now c.requires c.divisor-sum.ensures c.counts-counts.ensures c.chosen.ensures c.divide.ensures c.copy_within.ensures
 
 pub returns : goal.returns
 returns c =
-    personal_begun c.args.nodes c.args.damping c.args.given c.args.vector.now c.args.wf.now c.requires c.divisor-sum.ensures c.counts-counts.ensures c.chosen.ensures c.divide.ensures c.copyf_within.ensures c.bases.ensures
+    personal_begun c.args.nodes c.args.damping c.args.given c.args.vector.now c.args.wf.now c.requires c.divisor-sum.ensures c.counts-counts.ensures c.chosen.ensures c.divide.ensures c.copy_within.ensures c.bases.ensures

@@ -4,5 +4,5 @@ use Rattle.personalized_pagerank.proofs.chosen.Goals as goal
 pub returns-then-counts : goal.returns-then-counts
 returns-then-counts c = rw c.if-counts.true
 
-pub returns : goal.returns
-returns c = rw c.if-counts.false c.nearest_u64_to_f64.ensures
+pub returns-else-counts : goal.returns-else-counts
+returns-else-counts c = rw c.if-counts.false c.nearest_u64_to_f64.ensures

@@ -10,26 +10,21 @@ use Rattle.personalized_pagerank.proofs.Personal.{personal_kept}
 use Rattle.personalized_pagerank.proofs.spread.Goals as goal
 
 pub loop-v-init : goal.loop-v-init
-loop-v-init c = (omega arith, nodes_none c.args.nodes (personal_node (links_in c.args.nodes c.args.w.now c.args.wf.now) c.args.damping (personal_in c.args.nodes c.args.wf.now) (current_in c.args.nodes c.args.wf.now)) c.args.wf.now)
+loop-v-init c = (nodes_none c.args.nodes (personal_node (links_in c.args.nodes c.args.w.now c.args.wf.now) c.args.damping (personal_in c.args.nodes c.args.wf.now) (current_in c.args.nodes c.args.wf.now)) c.args.wf.now)
 
 pub spread_node-requires : goal.spread_node-requires
-spread_node-requires c = (pre_kept _ _ c.requires c.loop-v.invariant.1.front, c.loop-v-test.true)
+spread_node-requires c = (pre_kept _ _ c.requires c.loop-v.invariant.front, c.loop-v-test.true)
 
 pub loop-v-preserved : goal.loop-v-preserved
 loop-v-preserved c = let n = c.args.nodes in
     let d = c.args.damping in
     let wf = c.loop-v.wf in
-    let k = c.loop-v.invariant.1 in
-    let l₀ = links_in n c.args.w.now c.args.wf.now in (
-      omega (arith, c.loop-v-test.true),
-      nodes_more c.args.nodes (personal_node (links_in c.args.nodes c.args.w.now c.args.wf.now) c.args.damping (personal_in c.args.nodes c.args.wf.now) (current_in c.args.nodes c.args.wf.now)) c.args.wf.now k c.spread_node.ensures refl
-          (ap (λ (l : Links). personal_node l d (personal_in n wf) (current_in n wf) c.loop-v.v (next_in n wf)) (links_kept n c.args.w.now c.requires.room k.front)
-          ∙ ap (λ (p : List Float). personal_node l₀ d p (current_in n wf) c.loop-v.v (next_in n wf)) (personal_kept n c.requires.room k.front)
-          ∙ ap (λ (x : List Float). personal_node l₀ d (personal_in n c.args.wf.now) x c.loop-v.v (next_in n wf)) k.current),
-    )
-
-pub shape_of-wf : goal.shape_of-wf
-shape_of-wf c = c.loop-v.invariant.1.front.long
+    let k = c.loop-v.invariant in
+    let l₀ = links_in n c.args.w.now c.args.wf.now in
+    (nodes_more c.args.nodes (personal_node (links_in c.args.nodes c.args.w.now c.args.wf.now) c.args.damping (personal_in c.args.nodes c.args.wf.now) (current_in c.args.nodes c.args.wf.now)) c.args.wf.now k c.spread_node.ensures refl
+    (ap (λ (l : Links). personal_node l d (personal_in n wf) (current_in n wf) c.loop-v.v (next_in n wf)) (links_kept n c.args.w.now c.requires.room k.front)
+    ∙ ap (λ (p : List Float). personal_node l₀ d p (current_in n wf) c.loop-v.v (next_in n wf)) (personal_kept n c.requires.room k.front)
+    ∙ ap (λ (x : List Float). personal_node l₀ d (personal_in n c.args.wf.now) x c.loop-v.v (next_in n wf)) k.current))
 
 pub returns : goal.returns
-returns c = nodes_done c.args.nodes (personal_node (links_in c.args.nodes c.args.w.now c.args.wf.now) c.args.damping (personal_in c.args.nodes c.args.wf.now) (current_in c.args.nodes c.args.wf.now)) c.args.wf.now (omega (arith, c.loop-v.invariant.0, c.loop-v-test.false)) c.loop-v.invariant.1
+returns c = nodes_done c.args.nodes (personal_node (links_in c.args.nodes c.args.w.now c.args.wf.now) c.args.damping (personal_in c.args.nodes c.args.wf.now) (current_in c.args.nodes c.args.wf.now)) c.args.wf.now (omega arith) c.loop-v.invariant

@@ -1,20 +1,26 @@
--- `polls::weaken` meets its contract. Assumes nothing.
-use mathlib.Core.Path.{ap, ◌∙◌}
-use lib.ListN.{length, set, length-set}
+-- `polls::weaken` meets its contract: the entries before the index have each lost the decay. Assumes nothing.
+use mathlib.Core.Path.{refl, ap, ◌∙◌}
+use mathlib.Core.List.{foldl}
+use native.Mathlib.Omega.{arith}
+use lib.ListN.{set}
+use lib.Seq.{take_all}
 use lib.Ieee.{of_bits}
 use Rattle.regions.specs.Region.{zero_f}
-use Rattle.rows.specs.Rows.{row_at}
+use Rattle.polls.specs.Votes.{weaker}
 use Rattle.polls.specs.Steps.{weakened}
-use Rattle.polls.proofs.Voting.{weaker_long}
+use Rattle.polls.proofs.Voting.{weaker_more}
 use Rattle.polls.proofs.weaken.Goals as goal
 
-pub lose-requires : goal.lose-requires
-lose-requires c = let p = c.requires in record { fit = p.fit; node = p.node; room = simp length-set p.room }
+pub loop-entry-init : goal.loop-entry-init
+loop-entry-init c = refl
 
-pub shape_of-w : goal.shape_of-w
+pub loop-entry-preserved : goal.loop-entry-preserved
 unfolding of_bits
-shape_of-w c = ap length c.lose.ensures ∙ weaker_long c.args.decay (row_at c.args.nodes c.args.rows.now c.args.v) (set c.args.w.now c.args.v zero_f) ∙ length-set c.args.w.now c.args.v zero_f
+loop-entry-preserved c =
+    weaker_more c.args.decay c.row-entry-items.result.now _ c.loop-entry.w c.loop-entry.entry-index _ _ c.loop-entry-test.true c.loop-entry.invariant refl c.max.ensures
 
 pub returns : goal.returns
 unfolding weakened of_bits
-returns c = c.lose.ensures
+returns c =
+    let whole = foldl (weaker c.args.decay) (set c.args.w.now c.args.v zero_f) in
+    c.loop-entry.invariant ∙ ap whole (take_all c.loop-entry.entry-index c.row-entry-items.result.now (omega arith)) ∙ ap whole c.row-entry-items.ensures

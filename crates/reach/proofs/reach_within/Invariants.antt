@@ -10,7 +10,7 @@ use Rattle.reach.proofs.Within.{Going}
 use Rattle.reach.proofs.reach_within.Given as goal
 
 abbrev pub invariant-loop-head : goal.invariant-loop-head
-invariant-loop-head l = (directed : Bool) (es : List Edge) (s : ℕ) → Walk (graph_of l.nodes directed es) s l.initial.w l.distances l.queue 0 1 (get_or l.initial.w (l.queue + 0) 0) 0 → Near l.nodes l.limit l.distances l.initial.w → Going (graph_of l.nodes directed es) l.limit s l.distances l.queue l.initial.w l.w l.head l.tail
+invariant-loop-head l = (directed : Bool) (es : List Edge) (s : ℕ) → Walk (graph_of l.bounded.nodes directed es) s l.initial.w l.distances l.queue 0 1 (get_or l.initial.w (l.queue + 0) 0) 0 → Near l.bounded.nodes l.limit l.distances l.initial.w → Going (graph_of l.bounded.nodes directed es) l.limit s l.distances l.queue l.initial.w l.w l.head l.tail
 
 abbrev pub decreases-loop-head : goal.decreases-loop-head
-decreases-loop-head l = l.nodes - l.head
+decreases-loop-head l = l.bounded.nodes - l.head

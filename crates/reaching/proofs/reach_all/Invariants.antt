@@ -1,5 +1,5 @@
 -- `reaching::reach_all` meets its contract: after s starts their scores stand, and the workspace is ready for the next. Assumes nothing.
-use Rattle.std.proofs.Common.{◌≡◌, ◌-◌, ◌≤◌, Bool, List, length}
+use Rattle.std.proofs.Common.{Bool, List}
 use Rattle.regions.specs.Region.{Frame2}
 use Rattle.graph.specs.Edges.{Edge}
 use Rattle.hops.specs.Search.{graph_of}
@@ -8,8 +8,9 @@ use Rattle.reaching.proofs.Starting.{Scoring}
 use Rattle.reaching.proofs.reach_all.Given as goal
 
 abbrev pub invariant-loop-s : goal.invariant-loop-s
-invariant-loop-s l = (l.s ≤ l.nodes) × Frame2 l.initial.w l.distances l.nodes l.queue l.nodes l.w × (length l.scores ≡ length l.initial.scores)
-    × ((directed : Bool) (es : List Edge) → Ground (graph_of l.nodes directed es) l.initial.w l.distances l.queue → Scoring (graph_of l.nodes directed es) l.limit l.distances l.queue l.initial.scores l.w l.scores l.s)
-
-abbrev pub decreases-loop-s : goal.decreases-loop-s
-decreases-loop-s l = l.nodes - l.s
+invariant-loop-s l =
+    let b = l.bounded in
+    record {
+      kept : Frame2 l.initial.w b.distances b.nodes b.queue b.nodes l.w;
+      scored : (directed : Bool) (es : List Edge) → Ground (graph_of b.nodes directed es) l.initial.w b.distances b.queue → Scoring (graph_of b.nodes directed es) b.limit b.distances b.queue l.initial.scores l.w l.scores l.s;
+    }

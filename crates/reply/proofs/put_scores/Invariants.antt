@@ -1,5 +1,4 @@
 -- `reply::put_scores` meets its contract. Assumes nothing.
-use mathlib.Core.Path.{◌≡◌}
 use Prim.Native.Nat.{◌≤◌, ◌-◌, ◌+◌, ◌*◌}
 use lib.ListN.{length}
 use lib.Ieee.{nan}
@@ -8,7 +7,4 @@ use Rattle.reply.proofs.Sequences.{Leads}
 use Rattle.reply.proofs.put_scores.Given as goal
 
 abbrev pub invariant-loop-k : goal.invariant-loop-k
-invariant-loop-k l = (l.k ≤ length l.scores) × (length l.output ≡ length l.initial.output) × (l.at + 44 * (length l.scores - l.k) ≤ length l.initial.output) × Leads score_text nan l.scores l.initial.output l.start l.output l.at l.k
-
-abbrev pub decreases-loop-k : goal.decreases-loop-k
-decreases-loop-k l = length l.scores - l.k
+invariant-loop-k l = (l.at + 44 * (length l.scores - l.k) ≤ length l.output) × Leads score_text nan l.scores l.initial.output l.start l.output l.at l.k

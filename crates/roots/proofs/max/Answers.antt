@@ -1,33 +1,24 @@
 -- `roots::max` meets its contract: each `return` is the case of `max_of` that its tests leave. Assumes nothing.
-use mathlib.Core.Path.{sym, subst}
-use lib.Dec.{T}
-use lib.Ieee.{binary64, fits}
-use Rattle.roots.proofs.Absolute.{is_nan_lem, not_nan}
-use Rattle.roots.proofs.Maximum.{max_less, max_nan, max_more, equal_numbers, max_equal_negative, max_equal}
+use Rattle.roots.proofs.Maximum.{max_less, max_nan, max_more, max_equal_negative, max_equal}
 use Rattle.roots.proofs.max.Goals as goal
-use Rattle.roots.proofs.max.Goals.{Start}
+use Rattle.roots.proofs.max.Goals.{then-less-via-then-less, then-less-via-else-less+then-is_nan, else-a-b-via-then-a-b+else-is_sign_negative, else-a-b-via-else-a-b}
 
-held : (c : goal.Start) → T (fits binary64 c.args.a)
-held c = subst T (sym c.well_formed.0.1) tt
+pub returns-then-less : goal.returns-then-less
+returns-then-less c =
+    let s = c.args in
+    elim c.then-less.branch [
+      | then-less-via-then-less w ↦ max_less s.a s.b w.if-less.true
+      | then-less-via-else-less+then-is_nan w ↦ max_nan s.a s.b w.if-is_nan.ensures.value
+    ]
 
-pub returns-then-a-b : goal.returns-then-a-b
-returns-then-a-b c = let s = c.args in max_less s.a s.b c.if-a-b.true
-
-pub float_to_bits-bits : goal.float_to_bits-bits
-float_to_bits-bits c = let s = c.args in equal_numbers s.a s.b c.if-a-b-2.true
-
-pub returns-then-bits-eq1 : goal.returns-then-bits-eq1
-returns-then-bits-eq1 c =
-    max_equal_negative c.args.a c.args.b (held (goal.at.returns-then-bits-eq1 c).Start) c.if-a-b.false c.if-a-b-2.true c.if-bits-eq1.true
-
-pub returns-then-a-b-2 : goal.returns-then-a-b-2
-returns-then-a-b-2 c =
-    max_equal c.args.a c.args.b (held (goal.at.returns-then-a-b-2 c).Start) c.if-a-b.false c.if-a-b-2.true c.if-bits-eq1.false
-
-pub returns-then-a : goal.returns-then-a
-returns-then-a c = let s = c.args in max_nan s.a s.b (is_nan_lem s.a c.if-a.true)
+pub returns-then-is_sign_negative : goal.returns-then-is_sign_negative
+returns-then-is_sign_negative c = max_equal_negative c.args.a c.args.b c.if-less.false c.if-a-b.true c.if-is_sign_negative.ensures
 
 pub returns : goal.returns
 returns c =
     let s = c.args in
-    max_more s.a s.b (not_nan s.a c.if-a.false) c.if-a-b.false c.if-a-b-2.false
+    let n = c.if-is_nan.ensures.not_nan in
+    elim c.else-a-b.branch [
+      | else-a-b-via-then-a-b+else-is_sign_negative w ↦ max_equal s.a s.b n c.if-less.false w.if-a-b.true w.if-is_sign_negative.ensures
+      | else-a-b-via-else-a-b w ↦ max_more s.a s.b n c.if-less.false w.if-a-b.false
+    ]

@@ -3,7 +3,7 @@ use Prim.Native.Nat.{ℕ, zero, suc, ◌<◌, ◌-◌, ◌+◌, ◌*◌, ◌%◌
 use mathlib.Core.Path.{◌≡◌, refl, sym, ap, ◌∙◌, subst}
 use native.Mathlib.Nat.{mod-eq_of_lt}
 use native.Mathlib.Omega.{arith}
-use lib.Count.{count_leading_zeros, leading_le}
+use lib.Count.{count_leading_zeros}
 use Rattle.roots.specs.Root.{root_at, root_of}
 use Rattle.roots.proofs.Lifted.{Lifted, lifted}
 use Rattle.roots.proofs.root_of.Goals as goal
@@ -28,17 +28,8 @@ high-root (suc e) t h =
 up : (c : goal.Then-exponent-eq0) → Lifted c.args.fraction (count_leading_zeros 64 c.args.fraction - 11)
 up c = lifted c.args.fraction (omega arith) c.requires.1
 
-pub overflow_cast-zeros : goal.overflow_cast-zeros
-overflow_cast-zeros c = omega (arith, leading_le 64 c.args.fraction)
-
 pub overflow_sub-zeros : goal.overflow_sub-zeros
 overflow_sub-zeros c = omega (arith, (up (goal.at.overflow_sub-zeros c).Then-exponent-eq0).zeros)
-
-pub overflow_shl-fraction : goal.overflow_shl-fraction
-overflow_shl-fraction c = omega (arith, (up (goal.at.overflow_shl-fraction c).Then-exponent-eq0).few)
-
-pub overflow_sub-zeros-then-exponent-eq0 : goal.overflow_sub-zeros-then-exponent-eq0
-overflow_sub-zeros-then-exponent-eq0 c = omega (arith, (up (goal.at.overflow_sub-zeros-then-exponent-eq0 c).Then-exponent-eq0).few)
 
 pub root_at-requires : goal.root_at-requires
 root_at-requires c = omega (arith, (up (goal.at.root_at-requires c).Then-exponent-eq0).from, (up (goal.at.root_at-requires c).Then-exponent-eq0).to, (up (goal.at.root_at-requires c).Then-exponent-eq0).few)

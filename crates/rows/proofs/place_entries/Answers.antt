@@ -1,31 +1,27 @@
 -- `rows::place_entries` meets its contract: after i edges their entries stand at the ends of their rows. Assumes nothing.
-use native.Mathlib.Omega.{arith}
-use Rattle.rows.proofs.Placing.{none, turn, step, done}
+use mathlib.Core.Path.{◌≡◌, sym, ◌∙◌}
+use mathlib.Core.Bool.{◌&&◌}
+use lib.Dec.{eqb}
+use lib.ListN.{get_or}
+use Rattle.rows.proofs.Placing.{none, turn, step_skip, step_one}
 use Rattle.rows.proofs.place_entries.Goals as goal
+use Rattle.rows.proofs.place_entries.Goals.{then-skip, else-skip, then-not-own-i, else-not-own-i, Joined-skip}
 
 pub loop-i-init : goal.loop-i-init
 loop-i-init c = none _ _ _ _ _ _ _
 
-pub offset_bounds-own-i : goal.offset_bounds-own-i
-offset_bounds-own-i c = omega (arith, c.requires.walked)
+-- whether this edge is skipped, as the code tests it
+skipped : (c : goal.Joined-skip) → c.if-skip.value ≡ (c.args.skip && eqb (get_or c.args.own.now c.loop-i.i 0) (get_or c.args.other.now c.loop-i.i 0))
+skipped c = elim c.if-skip.branch [ then-skip w ↦ rw w.if-skip.true w.value-is | else-skip w ↦ rw w.if-skip.false (w.value-is ∙ w.if-skip.false) ]
 
-pub bounds-own-i : goal.bounds-own-i
-bounds-own-i c = omega (arith, c.requires.walked, c.loop-i-test.true)
-
-pub overflow_cast-own : goal.overflow_cast-own
-overflow_cast-own c = omega (arith, c.type_inv.own c.loop-i.i)
-
-pub offset_bounds-other-i : goal.offset_bounds-other-i
-offset_bounds-other-i c = omega (arith, c.requires.walked, c.requires.pair)
-
-pub bounds-other-i : goal.bounds-other-i
-bounds-other-i c = omega (arith, c.requires.walked, c.requires.pair, c.loop-i-test.true)
-
-pub place_edge-requires : goal.place_edge-requires
-place_edge-requires c = turn _ _ _ _ _ _ _ _ _ c.requires c.loop-i-test.true c.loop-i.invariant
+pub put-requires : goal.put-requires
+put-requires c =
+    turn _ _ _ _ _ _ _ _ _ c.requires c.loop-i-test.true c.loop-i.invariant (sym (skipped (goal.at.put-requires c).Joined-skip) ∙ c.if-not-own-i.true)
 
 pub loop-i-preserved : goal.loop-i-preserved
-loop-i-preserved c = step _ _ _ _ _ _ _ _ _ c.requires c.loop-i-test.true c.loop-i.invariant c.place_edge.ensures
-
-pub returns : goal.returns
-returns c = done _ _ _ _ _ _ _ _ _ (omega arith) c.loop-i.invariant
+loop-i-preserved c =
+    let e = skipped (goal.at.loop-i-preserved c).Joined-skip in
+    elim c.if-not-own-i.branch [
+      | then-not-own-i w ↦ rw w.w-is (step_one _ _ _ _ _ _ _ _ _ c.requires c.loop-i-test.true c.loop-i.invariant (sym e ∙ w.if-not-own-i.true) w.put.ensures.placed)
+      | else-not-own-i w ↦ rw w.w-is (step_skip _ _ _ _ _ _ _ _ _ c.requires c.loop-i-test.true c.loop-i.invariant (sym e ∙ w.if-not-own-i.false))
+    ]

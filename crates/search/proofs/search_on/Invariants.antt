@@ -9,7 +9,7 @@ use Rattle.search.proofs.Runs.{Run}
 use Rattle.search.proofs.search_on.Given as goal
 
 abbrev pub invariant-loop-head : goal.invariant-loop-head
-invariant-loop-head l = (directed : Bool) (es : List Edge) (s : ℕ) → Search (graph_of l.nodes directed es) l.limit s l.initial.w l.initial.counts l.distances l.queue 0 1 (get_or l.initial.w (l.queue + 0) 0) 0 → Run (graph_of l.nodes directed es) l.limit s l.distances l.queue l.initial.w l.initial.counts l.w l.counts l.head l.tail
+invariant-loop-head l = (directed : Bool) (es : List Edge) (s : ℕ) → Search (graph_of l.places.nodes directed es) l.places.limit s l.initial.w l.initial.counts l.places.distances l.places.queue 0 1 (get_or l.initial.w (l.places.queue + 0) 0) 0 → Run (graph_of l.places.nodes directed es) l.places.limit s l.places.distances l.places.queue l.initial.w l.initial.counts l.w l.counts l.head l.tail
 
 abbrev pub decreases-loop-head : goal.decreases-loop-head
-decreases-loop-head l = l.nodes - l.head
+decreases-loop-head l = l.places.nodes - l.head

@@ -1,8 +1,0 @@
--- `links::divisor` meets its contract. Assumes nothing.
-use Rattle.links.proofs.divisor.Goals as goal
-
-pub returns-then-counts : goal.returns-then-counts
-returns-then-counts c = rw c.if-counts.true c.total.ensures
-
-pub returns : goal.returns
-returns c = rw c.if-counts.false c.nearest_u64_to_f64.ensures

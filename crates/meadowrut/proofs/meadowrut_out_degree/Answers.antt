@@ -1,6 +1,0 @@
--- `meadowrut::meadowrut_out_degree` meets its contract, from those of the call and of the number. Assumes nothing.
-use Rattle.graph.proofs.Left.{in_numbers_lem}
-use Rattle.meadowrut.proofs.meadowrut_out_degree.Goals as goal
-
-pub returns : goal.returns
-returns c = in_numbers_lem c.plain_number.ensures c.out_degree.ensures

@@ -1,5 +1,0 @@
--- `rounds::length_wrong` meets its contract. Assumes nothing.
-use Rattle.rounds.proofs.length_wrong.Goals as goal
-
-pub returns-then-given : goal.returns-then-given
-returns-then-given c = rw c.if-given.true
