@@ -6,7 +6,7 @@ ghost use Rattle.records.specs.Records.{number_in, with_digit, part_of, Read};
 
 use std::io;
 
-// The number that digits spell; none if a byte is no digit or there are too many.
+// The number that digits spell; none if a byte is no digit or the number is above 99,999.
 #[tactic(auto, using(crate::proofs::Records::digit_steps))]
 pub fn number(digits: &[u8]) -> Option<usize>
     ensures { result ≡ number_in digits.now }
