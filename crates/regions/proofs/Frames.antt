@@ -2,11 +2,11 @@
 use mathlib.Core.Path.{◌≡◌, refl, sym, ◌∙◌}
 use mathlib.Core.Logic.{⊎_elim}
 use mathlib.Core.List.{List}
-use Prim.Native.Nat.{ℕ, ◌+◌, ◌≤◌, ◌<◌}
+use Prim.Native.Nat.{ℕ, ◌+◌, ◌-◌, ◌≤◌, ◌<◌}
 use native.Mathlib.Omega.{arith}
 use lib.ListN.{length, get_or, set, length-set}
 use lib.Seq.{ext_get_or, get_or-set_same, get_or-set_other}
-use Rattle.regions.specs.Region.{list_of, part, Front, Frame, Frame2, Filled, Copied}
+use Rattle.regions.specs.Region.{list_of, part, Front, Frame, Frame2, Filled, Copied, Apart}
 use Rattle.regions.proofs.Cases.{same_or_not, below_or_not}
 use Rattle.regions.proofs.Fronts.{miss_d, get_d_any, same_any}
 use Rattle.regions.proofs.Parts.{part_at, part_is, part_long}
@@ -105,3 +105,14 @@ copied_more {A} {s} {w} {w'} {from} {b} {i} d v f m l e =
       frame = frame_set (b + i) v (frame_wide b (i + 1) (omega arith) (omega arith) f.frame) (omega arith) (omega arith);
       at = λ z. store_more (λ k x. x ≡ get_or s (from + k) z) z w' b i v p (f.at z) (e ∙ get_d_any s (from + i) d z m);
     }
+
+-- inside one slice: the next source place has not been written
+pub copied_source : {A : Type 0} {w w' : List A} {from b i len : ℕ} (d : A) → Apart w from b len → i < len → Copied w from w b i w' → get_or w' (from + i) d ≡ get_or w (from + i) d
+copied_source {A} {w} {w'} {from} {b} {i} {len} d a l f =
+    f.frame.rest d (from + i)
+    (λ p q. let e : from + i ≡ b + (from + i - b) = omega arith in a.apart i (from + i - b) l (omega arith) e)
+
+-- inside one slice: one place more, with what is read there
+pub copied_next : {A : Type 0} {w w' : List A} {from b i len : ℕ} {v : A} → Apart w from b len → i < len → Copied w from w b i w' → v ≡ get_or w' (from + i) v → Copied w from w b (i + 1) (set w' (b + i) v)
+copied_next {A} {w} {w'} {from} {b} {i} {len} {v} a l f e =
+    copied_more v v f (omega (arith, a.source)) (omega (arith, a.target)) (e ∙ copied_source v a l f)

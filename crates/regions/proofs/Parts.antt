@@ -1,11 +1,12 @@
 -- Laws of `part`, and of `over`, `cleared` and `list_of` place by place. Assumes nothing.
 use mathlib.Core.Path.{◌≡◌, sym, ap, ◌∙◌}
 use mathlib.Core.Logic.{⊎_elim}
-use mathlib.Core.List.{List, [], ◌∷◌}
+use mathlib.Core.List.{List, [], ◌∷◌, ◌++◌}
 use Prim.Native.Nat.{ℕ, zero, suc, ◌+◌, ◌-◌, ◌≤◌, ◌<◌}
 use native.Mathlib.Omega.{arith}
-use lib.ListN.{length, get_or, drop, length-take, length-drop, get_or-append}
+use lib.ListN.{length, get_or, take, drop, length-take, length-drop, get_or-append}
 use lib.Seq.{ext_get_or, get_or-take, get_or-drop, get_or-append-add, get_or_at}
+use Rattle.std.proofs.lemmas.List.{take_more}
 use Rattle.regions.specs.Region.{over, list_of, part}
 use Rattle.regions.proofs.Cases.{below_or_not, same_or_not}
 use Rattle.regions.proofs.Fronts.{over_long, list_long}
@@ -34,6 +35,13 @@ part_long w base len h = simp (length-take, length-drop) (omega arith)
 pub part_at : {A : Type 0} (w : List A) (base len : ℕ) (d : A) (i : ℕ) → i < len → get_or (part w base len) i d ≡ get_or w (base + i) d
 unfolding part
 part_at w base len d i l = get_or-take len (drop base w) i d l ∙ get_or-drop base w i d
+
+-- a region with one place more
+pub part_more : {A : Type 0} (w : List A) (base i : ℕ) (d : A) → base + i < length w → part w base (i + 1) ≡ part w base i ++ (get_or w (base + i) d ∷ [])
+unfolding part
+part_more {A} w base i d h =
+    take_more (drop base w) i d (omega (arith, length-drop base w))
+    ∙ ap (λ (x : A). take i (drop base w) ++ (x ∷ [])) (get_or-drop base w i d)
 
 pub part_list : {A : Type 0} (d : A) (w : List A) (base len : ℕ) → base + len ≤ length w → list_of (λ i. get_or w (base + i) d) len ≡ part w base len
 part_list {A} d w base len h =

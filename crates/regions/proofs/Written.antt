@@ -12,11 +12,6 @@ use Rattle.regions.specs.Region.{over, cleared, Filled}
 use Rattle.regions.proofs.Cases.{below_or_not}
 use Rattle.regions.proofs.Frames.{frame_by}
 
--- ys in front of the rest of w is ys written over w
-pub front_written : {A : Type 0} (ys w : List A) (len : ℕ) → length ys ≡ len → ys ++ drop len w ≡ over ys w
-unfolding over
-front_written ys w len e = rw e
-
 -- a list cleared to its end
 pub cleared_whole : {A : Type 0} (z : A) (w : List A) (k : ℕ) → length w ≤ k → cleared z k w ≡ replicate k z
 unfolding cleared over

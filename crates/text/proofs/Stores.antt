@@ -1,15 +1,12 @@
 -- Laws of runs of stores: one run after another, and one store after a run.
 -- Assumes nothing.
 use mathlib.Core.Path.{◌≡◌, refl, sym, ap, ◌∙◌}
-use mathlib.Core.List.{List, [], ◌∷◌, ◌++◌, append_assoc}
-use Prim.Native.Nat.{ℕ, suc, ◌+◌, ◌≤◌}
+use mathlib.Core.List.{List, [], ◌∷◌, ◌++◌}
+use Prim.Native.Nat.{ℕ, suc, ◌+◌}
 use native.Mathlib.Nat.{add-zero, add-suc, suc-add}
 use native.Mathlib.Omega.{arith}
-use lib.ListN.{length-append, length, take, drop, set}
+use lib.ListN.{length-append, length, set}
 use lib.Seq.{sets, set_comm}
-use borrow.Rule.Slice.PartMut.{put_mid}
-use Rattle.std.proofs.lemmas.List.Edits.{sets-eq}
-use Rattle.std.proofs.Common.{drop-drop}
 use Rattle.text.specs.Written.{Written}
 
 pub then : {A : Type 0} (l : List A) (i : ℕ) (a b : List A) → sets (sets l i a) (i + length a) b ≡ sets l i (a ++ b)
@@ -33,7 +30,3 @@ and_then {a} {b} {before} {mid} {after} {at} {next} {end} p q =
 
 pub nothing : (before : List ℕ) (at : ℕ) → Written [] before at before at
 nothing before at = record { next_is = omega arith; after_is = refl }
-
--- a word copied over the part of a text that it fills
-pub pasted : (l part word : List ℕ) (at k : ℕ) → part ≡ word → k ≡ length word → at + length word ≤ length l → put_mid at k l part ≡ sets l at word
-pasted l part word at k e n h = rw (e, n, sets-eq word l at h) (rw drop-drop (sym (append_assoc (take at l) word (drop (at + length word) l))))

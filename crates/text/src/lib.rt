@@ -111,14 +111,14 @@ fn digit_byte(d: u64) -> u8
 }
 
 // Writes a word.
-#[tactic(auto, using(crate::proofs::Stores::pasted))]
 pub fn put(output: &mut [u8], at: usize, word: &[u8]) -> usize
     requires { at + length word.now ≤ length output.old }
     ensures { Written word.now output.old at output.new result }
 {
-    let next = at + word.len();
-    output[at..next].copy_from_slice(word);
-    next
+    for i in 0..word.len() {
+        output[at + i] = word[i];
+    }
+    at + word.len()
 }
 
 // Writes the n last digits of v, from the last one.

@@ -1,17 +1,24 @@
--- `regions::copy_out` meets its contract. Assumes nothing.
-use mathlib.Core.Path.{◌≡◌, ◌∙◌, ap}
-use mathlib.Core.List.{List}
-use Prim.Native.Nat.{◌+◌, ◌-◌}
+-- `regions::copy_out` meets its contract: after i turns the first i places of the region are written. Assumes nothing.
+use mathlib.Core.Path.{◌≡◌, refl, sym, ap, ◌∙◌}
+use mathlib.Core.List.{List, [], ◌∷◌, ◌++◌}
 use native.Mathlib.Omega.{arith}
-use lib.ListN.{length, length-take}
+use lib.ListN.{set}
 use Rattle.regions.specs.Region.{over, part}
-use Rattle.regions.proofs.Written.{front_written}
+use Rattle.regions.proofs.Fronts.{over_more}
+use Rattle.regions.proofs.Parts.{part_long, part_more}
 use Rattle.regions.proofs.copy_out.Goals as goal
 
-pub returns : goal.returns
-unfolding part
-returns g c =
+pub loop-i-init : goal.loop-i-init
+unfolding over part
+loop-i-init g c = refl
+
+pub loop-i-preserved : goal.loop-i-preserved
+loop-i-preserved g c =
     let a = c.args in
-    let e : a.base + a.len - a.base ≡ a.len = omega arith in
-    let n : length c.copy_from_slice.new.self ≡ a.len = omega (arith, length-take a.len a.out.now) in
-    front_written _ _ _ n ∙ ap (λ (x : List g.row.T.Denot). over x a.out.now) (rw e at c.copy_from_slice.ensures.after)
+    let i = c.loop-i.i in
+    let v = c.index-w-base.result in
+    let front = part a.w.now a.base i in
+    ap (λ (x : List g.row.T.Denot). set x i v) c.loop-i.invariant
+    ∙ over_more front a.out.now i v (part_long a.w.now a.base i (omega arith)) (omega arith)
+    ∙ ap (λ (x : g.row.T.Denot). over (front ++ (x ∷ [])) a.out.now) c.index-w-base.is
+    ∙ ap (λ (x : List g.row.T.Denot). over x a.out.now) (sym (part_more a.w.now a.base i v (omega arith)))
