@@ -23,8 +23,8 @@ pub fn build_lists(graph: Graph<'_>, w: &mut [u32])
 
 // The out-weight of each node, in the third region of n numbers.
 pub fn out_weights(graph: Graph<'_>, w: &[u32], wf: &mut [f64])
-    requires { OutPre graph.nodes (length graph.from.now) graph.weight.now w.now wf.old }
-    ensures { OutWeights graph.entry.nodes (length graph.entry.from.now) graph.entry.weight.now w.now wf.old wf.new }
+    requires { OutPre graph.nodes (length graph.weight.now) graph.weight.now w.now wf.old }
+    ensures { OutWeights graph.entry.nodes (length graph.entry.weight.now) graph.entry.weight.now w.now wf.old wf.new }
 {
     let base = 2 * graph.nodes;
     for v in 0..graph.nodes {
@@ -34,16 +34,11 @@ pub fn out_weights(graph: Graph<'_>, w: &[u32], wf: &mut [f64])
 
 // The weights of the list of v, added in edge order.
 fn out_weight(graph: Graph<'_>, w: &[u32], v: usize) -> f64
-    requires { ListsFit graph.nodes (length graph.from.now) w.now × (length graph.weight.now ≡ length graph.from.now) × (v < graph.nodes) }
-    ensures { result ≡ weight_of (shares_at graph.entry.nodes (length graph.entry.from.now) graph.entry.weight.now w.now v) }
+    requires { ListsFit graph.nodes (length graph.weight.now) w.now × (v < graph.nodes) }
+    ensures { result ≡ weight_of (shares_at graph.entry.nodes (length graph.entry.weight.now) graph.entry.weight.now w.now v) }
 {
-    let Graph {
-        nodes,
-        from,
-        weight,
-        ..
-    } = graph;
-    let beside = nodes + 1 + 2 * from.len();
+    let Graph { nodes, weight, .. } = graph;
+    let beside = nodes + 1 + 2 * weight.len();
     let mut sum = 0.0;
     for at in &w[beside + w[v] as usize..beside + w[v + 1] as usize] {
         sum += weight[*at as usize];

@@ -12,10 +12,10 @@ loop-at-init c = summed_none _ _ c.args.graph.weight.now c.args.w.now c.args.v
 pub bounds-weight-at : goal.bounds-weight-at
 bounds-weight-at c =
     let r = c.requires in
-    omega (arith, r.1, position_in _ _ c.args.graph.weight.now _ _ r.0 r.2 _ c.loop-at-test.true)
+    omega (arith, position_in _ _ c.args.graph.weight.now _ _ r.0 r.1 _ c.loop-at-test.true)
 
 pub loop-at-preserved : goal.loop-at-preserved
-loop-at-preserved c = summed_more _ _ _ _ _ c.requires.0 c.requires.2 _ _ c.loop-at-test.true c.loop-at.invariant
+loop-at-preserved c = summed_more _ _ _ _ _ c.requires.0 c.requires.1 _ _ c.loop-at-test.true c.loop-at.invariant
 
 pub returns : goal.returns
-returns c = c.loop-at.invariant ∙ summed_all _ _ c.args.graph.weight.now _ _ c.requires.0 c.requires.2 c.loop-at.at-index (omega arith)
+returns c = c.loop-at.invariant ∙ summed_all _ _ c.args.graph.weight.now _ _ c.requires.0 c.requires.1 c.loop-at.at-index (omega arith)

@@ -11,5 +11,5 @@ abbrev pub invariant-loop-v : goal.invariant-loop-v
 invariant-loop-v l =
     record {
       frame : Frame l.initial.wf (2 * l.graph.nodes) l.graph.nodes l.wf;
-      written : (d : Float) (u : ℕ) → u < l.v → get_or l.wf (2 * l.graph.nodes + u) d ≡ weight_of (shares_at l.graph.nodes (length l.graph.from.now) l.graph.weight.now l.w u);
+      written : (d : Float) (u : ℕ) → u < l.v → get_or l.wf (2 * l.graph.nodes + u) d ≡ weight_of (shares_at l.graph.nodes (length l.graph.weight.now) l.graph.weight.now l.w u);
     }
