@@ -79,6 +79,7 @@ fn numerator(counts: bool, vector: &[f64], i: usize) -> f64
 }
 
 // The targets of v's list gain contribution*weight, in the list's order.
+#[inline(always)]
 pub fn give(nodes: usize, contribution: f64, w: &[u32], v: usize, wf: &mut [f64])
     requires { LinksPre nodes w.now wf.old × (v < nodes) }
     ensures { Vectors nodes wf.old (current_in nodes wf.old) (foldl (gives contribution) (next_in nodes wf.old) (shares_in nodes w.now wf.old v)) wf.new }

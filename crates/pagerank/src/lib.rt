@@ -79,7 +79,9 @@ fn none_dangles(nodes: usize, wf: &[f64]) -> bool
     wf[2 * nodes..3 * nodes].iter().all(|out| *out != 0.0)
 }
 
-// One round. Says whether the summed absolute change is below tolerance*n.
+// One round. Says whether the summed absolute change is below tolerance*n. A function of its own in the compiled code too: its loops
+// then have the registers to themselves, whatever stands around them.
+#[inline(never)]
 fn round(nodes: usize, settings: Settings, none: bool, w: &[u32], wf: &mut [f64]) -> bool
     requires { LinksPre nodes w.now wf.old × NoneDangles nodes none (outs_in nodes wf.old) }
     ensures { RoundDone nodes (pagerank_step (links_in nodes w.now wf.old) settings.damping settings.tolerance) wf.old result wf.new }
