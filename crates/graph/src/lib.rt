@@ -33,7 +33,7 @@ pub struct Fronts {
 
 // The first end that is no node: its edge, and which end.
 #[derive(Clone, Copy)]
-enum Fault {
+pub enum Fault {
     From(usize),
     To(usize),
 }
@@ -122,6 +122,7 @@ fn highest(ends: &[u32]) -> u32
 }
 
 // Neither an infinity nor a NaN.
+#[tactic(auto, using(crate::proofs::Checks::finite_is))]
 pub fn is_finite(x: f64) -> bool
     ensures { result ≡ finite x }
 {
