@@ -1,7 +1,11 @@
 -- `predecessors::search_from` meets its contract: the start alone in the queue is where the visits begin. Assumes nothing.
 use native.Mathlib.Omega.{arith}
+use Rattle.hops.proofs.Search.{begin_pre}
 use Rattle.predecessors.proofs.Tours.{stays_then, begun_stays, track_first}
 use Rattle.predecessors.proofs.search_from.Goals as goal
+
+pub begin-requires : goal.begin-requires
+begin-requires c = begin_pre c.requires.space
 
 pub search_on-requires : goal.search_on-requires
 search_on-requires c =

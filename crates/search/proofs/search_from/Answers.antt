@@ -1,6 +1,9 @@
 -- `search::search_from` meets its contract: the start alone in the queue is where the visits begin. Assumes nothing.
-use Rattle.hops.proofs.Search.{begun_kept, kept_then, first}
+use Rattle.hops.proofs.Search.{begin_pre, begun_kept, kept_then, first}
 use Rattle.search.proofs.search_from.Goals as goal
+
+pub begin-requires : goal.begin-requires
+begin-requires c = begin_pre c.requires.space
 
 pub search_on-requires : goal.search_on-requires
 search_on-requires c =
