@@ -88,7 +88,9 @@ fn read_head(s: &[u8]) -> Result<(Head, usize), FaultyLine>
     ))
 }
 
-// Reads m edge lines from start on; the text ends after them. The first faulty line decides.
+// Reads m edge lines from start on; the text ends after them. The first faulty line decides. A function of its own in the
+// compiled code too: its loops then have the registers to themselves, whatever stands around them.
+#[inline(never)]
 #[tactic(auto, using(crate::proofs::Reading::exits))]
 fn read_edges(
     s: &[u8],

@@ -21,11 +21,13 @@ pub fn digit(b: u8) -> Option<u64>
     }
 }
 
-// What a byte is worth as a digit of a base.
+// What a byte is worth as a digit of a base. A byte that is no digit at all counts as the base itself, so that one test
+// refuses it and a digit that is too large.
 fn digit_in(base: u64, b: u8) -> Option<u64>
     ensures { result ≡ digit_in base (digit_of b) }
 {
-    digit(b).filter(|d| *d < base)
+    let d = digit(b).unwrap_or(base);
+    if d < base { Some(d) } else { None }
 }
 
 // The number of digits in a base, most significant first.
